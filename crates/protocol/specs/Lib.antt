@@ -1,0 +1,4 @@
+pub mod Group
+pub mod Halving
+pub mod Weights
+pub mod Quick
