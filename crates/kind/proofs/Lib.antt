@@ -1,0 +1,5 @@
+pub mod Scans
+pub mod Listed
+pub mod Squares
+pub mod Joins
+pub mod Writes

@@ -1,0 +1,10 @@
+pub mod Constants
+pub mod Modular
+pub mod Faults
+pub mod Kinds
+pub mod OrderPrime
+pub mod Clears
+pub mod Residues
+pub mod Pairs
+pub mod Products
+pub mod Bytes
