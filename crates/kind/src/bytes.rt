@@ -26,5 +26,10 @@ pub fn byte_at(bytes: &[u8], i: usize) -> u8
 pub fn number_in(bytes: &[u8]) -> u32
     ensures { λ r. ⌜ r ≡ numberIn (now (bytes .entry)) ⌝ }
 {
-    u32::from_be_bytes([byte_at(bytes, 0), byte_at(bytes, 1), byte_at(bytes, 2), byte_at(bytes, 3)])
+    u32::from_be_bytes([
+        byte_at(bytes, 0),
+        byte_at(bytes, 1),
+        byte_at(bytes, 2),
+        byte_at(bytes, 3),
+    ])
 }

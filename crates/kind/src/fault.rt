@@ -38,9 +38,21 @@ impl KindFault {
     {
         let layer = Layer::Kind;
         match self {
-            KindFault::Length(place) => Refusal { number: 6, layer, place },
-            KindFault::NotAnElement(place) => Refusal { number: 11, layer, place },
-            KindFault::NotAScalar(place) => Refusal { number: 12, layer, place },
+            KindFault::Length(place) => Refusal {
+                number: 6,
+                layer,
+                place,
+            },
+            KindFault::NotAnElement(place) => Refusal {
+                number: 11,
+                layer,
+                place,
+            },
+            KindFault::NotAScalar(place) => Refusal {
+                number: 12,
+                layer,
+                place,
+            },
         }
     }
 }

@@ -1,5 +1,6 @@
 // Products of powers, in any kind.
-use crate::entries::{check_entries, element_at};
+use crate::entries::check_entries;
+use crate::entries::element_at;
 use crate::fault::KindFault;
 use crate::kind::Kind;
 use crate::powers::power;

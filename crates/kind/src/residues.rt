@@ -1,7 +1,10 @@
 // The residues of the subgroup of order q are a kind.
 use crate::fault::KindFault;
 use crate::kind::Kind;
-use crate::modular::{mul_mod, pow_mod, MODULUS, ORDER};
+use crate::modular::MODULUS;
+use crate::modular::ORDER;
+use crate::modular::mul_mod;
+use crate::modular::pow_mod;
 use crate::residue::Residue;
 ghost use mathlib.Core.Path.{_≡_};
 ghost use Rattle.kind.specs.Residues.{residueMeaning, residue-laws};

@@ -1,0 +1,5 @@
+pub mod Refused
+pub mod Foldings
+pub mod Bits
+pub mod Weighing
+pub mod Sized
