@@ -8,3 +8,4 @@ pub mod Residues
 pub mod Pairs
 pub mod Products
 pub mod Bytes
+pub mod Bench

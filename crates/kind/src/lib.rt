@@ -1,4 +1,5 @@
 // Kinds of element: commutative groups of prime order whose elements have plain entries in lists.
+pub mod bench;
 pub mod bytes;
 pub mod clear;
 pub mod clears;

@@ -90,9 +90,10 @@ module _ {M : Type 0} (w : Writing M) (q : ℕ) (small : q ≤ 2 ^ 30) where
       let one = both-went (lastIn q place (take 8 bs)) _ rest e in
       let none : List (Round M) = [] in
       let h : Ok (none, one .0) ≡ Ok rest = one .2 in
-      let same : (none, one .0) ≡ rest = cc in
-      (ap (λ (y : List (Round M) × (ℕ × ℕ)). length (challengesOf (y .0))) (sym same),
-      ap (λ (y : List (Round M) × (ℕ × ℕ)). firstBad outside NotAChallenge i (challengesOf (y .0))) (sym same))
+      let same : (none, one .0) ≡ rest = cc in (
+        ap (λ (y : List (Round M) × (ℕ × ℕ)). length (challengesOf (y .0))) (sym same),
+        ap (λ (y : List (Round M) × (ℕ × ℕ)). firstBad outside NotAChallenge i (challengesOf (y .0))) (sym same),
+      )
   rest-facts (suc k) place i bs rest e =
       let size : ℕ = roundSize (w .width) in
       let one = both-went (roundIn w q place (take size bs)) _ rest e in
@@ -101,11 +102,12 @@ module _ {M : Type 0} (w : Writing M) (q : ℕ) (small : q ≤ 2 ^ 30) where
       let y : List (Round M) × (ℕ × ℕ) = two .0 in
       let h : Ok (x ∷ y .0, y .1) ≡ Ok rest = two .2 in
       let same : (x ∷ y .0, y .1) ≡ rest = cc in
-      let later = rest-facts k (place + size) (i + 1) (drop size bs) y (two .1) in
-      (ap (λ (z : List (Round M) × (ℕ × ℕ)). length (challengesOf (z .0))) (sym same) ∙ ap suc (later .0),
-      ap (λ (z : List (Round M) × (ℕ × ℕ)). firstBad outside NotAChallenge i (challengesOf (z .0))) (sym same)
-      ∙ ap (λ b. cond b (Err (NotAChallenge i)) (firstBad outside NotAChallenge (i + 1) (challengesOf (y .0)))) (round-inside place (take size bs) x (one .1))
-      ∙ later .1)
+      let later = rest-facts k (place + size) (i + 1) (drop size bs) y (two .1) in (
+        ap (λ (z : List (Round M) × (ℕ × ℕ)). length (challengesOf (z .0))) (sym same) ∙ ap suc (later .0),
+        ap (λ (z : List (Round M) × (ℕ × ℕ)). firstBad outside NotAChallenge i (challengesOf (z .0))) (sym same)
+            ∙ ap (λ b. cond b (Err (NotAChallenge i)) (firstBad outside NotAChallenge (i + 1) (challengesOf (y .0)))) (round-inside place (take size bs) x (one .1))
+            ∙ later .1,
+      )
 
   -- of a whole record: its rounds are as many as it says, and its challenges make a table
   pub contents-facts : (bs : List ℕ) (c : Contents M) → contentsIn w q bs ≡ Ok c

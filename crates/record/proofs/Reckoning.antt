@@ -53,6 +53,7 @@ module _ {M E : Type 0} (s : Meaning M E) (w : Writing M) where
     where
       size : ℕ
       size = roundSize (w .width)
+
       go : (a : Result (Round M) RecordFault)
           → ((t : Reckoned M) → gathered s w (place + size) t (roundPieces size k (drop size bs)) ≡ andThen (restIn w (s .order) (place + size) k (drop size bs)) (λ rest. Ok (finished t rest)))
           → andThen (andThen a (λ x. Ok (withRound s x r))) (λ t. gathered s w (place + size) t (roundPieces size k (drop size bs)))
@@ -67,10 +68,12 @@ module _ {M E : Type 0} (s : Meaning M E) (w : Writing M) where
     where
       rest : List ℕ
       rest = drop (claimSize (w .width)) (drop 1 bs)
+
       end : (z : Pair M) (a : Result (List (Round M) × (ℕ × ℕ)) RecordFault)
           → andThen a (λ x. Ok (finished (withClaim z (nothing s)) x)) ≡ andThen (andThen a (λ x. Ok (record { commitments = z; rounds = x .0; last-pair = x .1 }))) (λ c. Ok (reckoned s c))
       end z (Ok x) = refl
       end z (Err f) = refl
+
       go : (a : Result (Pair M) RecordFault)
           → andThen (andThen a (λ z. Ok (withClaim z (nothing s)))) (λ t. gathered s w (1 + claimSize (w .width)) t (roundPieces (roundSize (w .width)) (roundsIn bs) rest))
           ≡ andThen (andThen a (λ z. andThen (restIn w (s .order) (1 + claimSize (w .width)) (roundsIn bs) rest) (λ x. Ok (record { commitments = z; rounds = x .0; last-pair = x .1 })))) (λ c. Ok (reckoned s c))

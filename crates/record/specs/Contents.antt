@@ -23,10 +23,10 @@ pub record Contents (M : Type 0) : Type 0 where
 abbrev pub shapeIn : ℕ → List ℕ → Result ℕ RecordFault
 shapeIn width bs =
     andThen (firstOf (
-      unless (ltb 0 (length bs)) (Length 0)
-      ∷ unless (leb (roundsIn bs) 8) TooManyRounds
-      ∷ unless (eqb (length bs) (recordLength width (roundsIn bs))) (Length (length bs))
-      ∷ []
+    unless (ltb 0 (length bs)) (Length 0)
+    ∷ unless (leb (roundsIn bs) 8) TooManyRounds
+    ∷ unless (eqb (length bs) (recordLength width (roundsIn bs))) (Length (length bs))
+    ∷ []
     )) (λ _. Ok (roundsIn bs))
 
 module _ {M : Type 0} (w : Writing M) (q : ℕ) where

@@ -1,8 +1,11 @@
 // Checking a record by a method.
-use crate::fault::{InRecord, MethodInRecord, RecordFault};
+use crate::fault::InRecord;
+use crate::fault::MethodInRecord;
+use crate::fault::RecordFault;
 use crate::noted::Noted;
 use crate::whole::read_whole;
-use kind::bytes::{byte_at, cut};
+use kind::bytes::byte_at;
+use kind::bytes::cut;
 use kind::kind::Kind;
 use kind::written::WrittenKind;
 use method::method::Method;
@@ -36,7 +39,17 @@ fn judge<K: Kind, M: Method>(
     let (challenges, _) = cut(&noted.challenges, noted.count);
     match ChallengeTable::new(challenges) {
         Ok(table) => {
-            let r = method.verdict(&table, noted.z, g, h, key, noted.a, noted.b, work_elements, work_numbers);
+            let r = method.verdict(
+                &table,
+                noted.z,
+                g,
+                h,
+                key,
+                noted.a,
+                noted.b,
+                work_elements,
+                work_numbers,
+            );
             r.in_record(0)
         }
         Err(fault) => Err(RecordFault::Method(fault, 0)),
@@ -86,5 +99,13 @@ pub fn check_front<K: WrittenKind, M: Method>(
     let n = two_to(byte_at(bytes, 0).min(8));
     let (front_g, _) = cut(g, n);
     let (front_h, _) = cut(h, n);
-    check_record::<K, M>(method, bytes, front_g, front_h, key, work_elements, work_numbers)
+    check_record::<K, M>(
+        method,
+        bytes,
+        front_g,
+        front_h,
+        key,
+        work_elements,
+        work_numbers,
+    )
 }

@@ -1,6 +1,12 @@
 // The record's faults, and how it takes up those of the kind and of the method.
-use kind::fault::{KindFault, KindFaultDebug, KindFaultPartialEq, Layer, Refusal};
-use method::fault::{MethodFault, MethodFaultDebug, MethodFaultPartialEq};
+use kind::fault::KindFault;
+use kind::fault::KindFaultDebug;
+use kind::fault::KindFaultPartialEq;
+use kind::fault::Layer;
+use kind::fault::Refusal;
+use method::fault::MethodFault;
+use method::fault::MethodFaultDebug;
+use method::fault::MethodFaultPartialEq;
 ghost use mathlib.Core.Path.{_≡_};
 ghost use Prim.Native.Nat.{ℕ};
 ghost use Rattle.kind.specs.Faults.{wrapped};
@@ -30,10 +36,26 @@ impl RecordFault {
     {
         let layer = Layer::Record;
         match self {
-            RecordFault::TooManyRounds => Refusal { number: 3, layer, place: 0 },
-            RecordFault::Length(place) => Refusal { number: 10, layer, place },
-            RecordFault::NotAScalar(place) => Refusal { number: 12, layer, place },
-            RecordFault::NotAChallenge(place) => Refusal { number: 13, layer, place },
+            RecordFault::TooManyRounds => Refusal {
+                number: 3,
+                layer,
+                place: 0,
+            },
+            RecordFault::Length(place) => Refusal {
+                number: 10,
+                layer,
+                place,
+            },
+            RecordFault::NotAScalar(place) => Refusal {
+                number: 12,
+                layer,
+                place,
+            },
+            RecordFault::NotAChallenge(place) => Refusal {
+                number: 13,
+                layer,
+                place,
+            },
             RecordFault::Kind(fault, _) => fault.refusal(),
             RecordFault::Method(fault, _) => fault.refusal(),
         }

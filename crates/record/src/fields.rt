@@ -1,7 +1,10 @@
 // The fields of a record, read at a place.
-use crate::fault::{InRecord, KindInRecord, RecordFault};
+use crate::fault::InRecord;
+use crate::fault::KindInRecord;
+use crate::fault::RecordFault;
 use crate::round::Round;
-use kind::bytes::{cut, number_in};
+use kind::bytes::cut;
+use kind::bytes::number_in;
 use kind::kind::Kind;
 use kind::pair::Pair;
 use kind::written::WrittenKind;
@@ -13,14 +16,22 @@ fn read_scalar<K: Kind>(bytes: &[u8], place: usize) -> Result<u32, RecordFault>
     ensures { λ r. ⌜ r ≡ scalarIn (K·Kind .meaning .order) place (now (bytes .entry)) ⌝ }
 {
     let n = number_in(bytes);
-    if n < K::order() { Ok(n) } else { Err(RecordFault::NotAScalar(place)) }
+    if n < K::order() {
+        Ok(n)
+    } else {
+        Err(RecordFault::NotAScalar(place))
+    }
 }
 
 fn read_challenge<K: Kind>(bytes: &[u8], place: usize) -> Result<u32, RecordFault>
     ensures { λ r. ⌜ r ≡ challengeIn (K·Kind .meaning .order) place (now (bytes .entry)) ⌝ }
 {
     let n = number_in(bytes);
-    if 0 < n && n < K::order() { Ok(n) } else { Err(RecordFault::NotAChallenge(place)) }
+    if 0 < n && n < K::order() {
+        Ok(n)
+    } else {
+        Err(RecordFault::NotAChallenge(place))
+    }
 }
 
 fn read_element<K: WrittenKind>(bytes: &[u8], place: usize) -> Result<K, RecordFault>
@@ -43,7 +54,10 @@ pub(crate) fn read_pair<K: WrittenKind>(bytes: &[u8], place: usize) -> Result<Pa
 }
 
 // L1, L2, R1, R2 and the challenge.
-pub(crate) fn read_round<K: WrittenKind>(bytes: &[u8], place: usize) -> Result<Round<K>, RecordFault>
+pub(crate) fn read_round<K: WrittenKind>(
+    bytes: &[u8],
+    place: usize,
+) -> Result<Round<K>, RecordFault>
     requires { ⌜ place ≤ 60000 ⌝ }
     ensures { λ r. ⌜ r ≡ roundIn (K·WrittenKind .writing) (K·Kind .meaning .order) place (now (bytes .entry)) ⌝ }
 {
@@ -53,7 +67,11 @@ pub(crate) fn read_round<K: WrittenKind>(bytes: &[u8], place: usize) -> Result<R
     let lower = read_pair::<K>(bytes, place)?;
     let upper = read_pair::<K>(high, place + 2 * w)?;
     let challenge = read_challenge::<K>(word, place + 4 * w)?;
-    Ok(Round { lower, upper, challenge })
+    Ok(Round {
+        lower,
+        upper,
+        challenge,
+    })
 }
 
 // a, then b.

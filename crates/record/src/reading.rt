@@ -1,6 +1,9 @@
 // The reader that hands out the parts of a record.
-use crate::part::{Part, Reader, Stage};
-use kind::bytes::{byte_at, cut};
+use crate::part::Part;
+use crate::part::Reader;
+use crate::part::Stage;
+use kind::bytes::byte_at;
+use kind::bytes::cut;
 ghost use mathlib.Core.Path.{_≡_};
 ghost use mathlib.Core.List.{[], _∷_};
 ghost use Prim.Native.Nat.{_≤_};

@@ -1,8 +1,11 @@
 // Reading a record whole: part by part, the commitments folded on the way.
 use crate::fault::RecordFault;
-use crate::fields::{read_last, read_pair, read_round};
+use crate::fields::read_last;
+use crate::fields::read_pair;
+use crate::fields::read_round;
 use crate::noted::Noted;
-use crate::part::{Part, Reader};
+use crate::part::Part;
+use crate::part::Reader;
 use kind::bytes::byte_at;
 use kind::kind::Kind;
 use kind::pair::Pair;
@@ -39,7 +42,11 @@ fn check_shape(width: usize, bytes: &[u8]) -> Result<u8, RecordFault>
     Ok(k)
 }
 
-fn note_claim<K: WrittenKind>(noted: Noted<K>, bytes: &[u8], place: usize) -> Result<Noted<K>, RecordFault>
+fn note_claim<K: WrittenKind>(
+    noted: Noted<K>,
+    bytes: &[u8],
+    place: usize,
+) -> Result<Noted<K>, RecordFault>
     requires { ⌜ place ≤ 60000 ⌝ }
     ensures noted { λ r. ⌜ seenIn r ≡ andThen (pairIn (K·WrittenKind .writing) (K·Kind .meaning .order) place (now (bytes .entry))) (λ z. Ok (withClaim z (seen noted))) ⌝ }
     ensures counted { λ r. ⌜ made r (λ n. n .count ≡ noted .count) ⌝ }
@@ -54,7 +61,11 @@ fn note_claim<K: WrittenKind>(noted: Noted<K>, bytes: &[u8], place: usize) -> Re
     })
 }
 
-fn note_round<K: WrittenKind>(noted: Noted<K>, bytes: &[u8], place: usize) -> Result<Noted<K>, RecordFault>
+fn note_round<K: WrittenKind>(
+    noted: Noted<K>,
+    bytes: &[u8],
+    place: usize,
+) -> Result<Noted<K>, RecordFault>
     requires place { ⌜ place ≤ 60000 ⌝ }
     requires room { ⌜ noted .count < 8 ⌝ }
     ensures noted { λ r. ⌜ seenIn r ≡ andThen (roundIn (K·WrittenKind .writing) (K·Kind .meaning .order) place (now (bytes .entry))) (λ x. Ok (withRound (K·Kind .meaning) x (seen noted))) ⌝ }
@@ -72,7 +83,11 @@ fn note_round<K: WrittenKind>(noted: Noted<K>, bytes: &[u8], place: usize) -> Re
     })
 }
 
-fn note_last<K: WrittenKind>(noted: Noted<K>, bytes: &[u8], place: usize) -> Result<Noted<K>, RecordFault>
+fn note_last<K: WrittenKind>(
+    noted: Noted<K>,
+    bytes: &[u8],
+    place: usize,
+) -> Result<Noted<K>, RecordFault>
     requires { ⌜ place ≤ 60000 ⌝ }
     ensures noted { λ r. ⌜ seenIn r ≡ andThen (lastIn (K·Kind .meaning .order) place (now (bytes .entry))) (λ p. Ok (withLast p (seen noted))) ⌝ }
     ensures counted { λ r. ⌜ made r (λ n. n .count ≡ noted .count) ⌝ }
@@ -88,7 +103,11 @@ fn note_last<K: WrittenKind>(noted: Noted<K>, bytes: &[u8], place: usize) -> Res
 }
 
 // One part more: the claim is noted, a round folds the commitments, the last pair is noted.
-fn note_part<K: WrittenKind>(noted: Noted<K>, part: Part, place: usize) -> Result<Noted<K>, RecordFault>
+fn note_part<K: WrittenKind>(
+    noted: Noted<K>,
+    part: Part,
+    place: usize,
+) -> Result<Noted<K>, RecordFault>
     requires place { ⌜ place ≤ 60000 ⌝ }
     requires room { ⌜ noted .count + roundOnly (pieceOf part) ≤ 8 ⌝ }
     ensures noted { λ r. ⌜ seenIn r ≡ takenIn (K·Kind .meaning) (K·WrittenKind .writing) place (seen noted) (pieceOf (part .entry)) ⌝ }

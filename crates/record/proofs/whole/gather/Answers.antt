@@ -43,9 +43,11 @@ loop-part-again g c =
     let rest = left (c .next .last .self) in
     let er = ap roundsOnly more in
     let es = ap (sizeOfAll (w .width)) more in
-    let count : c .in-Continue-noted .noted .count ≡ c .loop-part .noted .count + roundOnly p = c .in-Continue-noted .ensures tt .counted in
-    (ap (λ (n : ℕ). gathered s w (c .loop-part .place + n) (seen (c .in-Continue-noted .noted)) rest) size
-    ∙ sym (ap (λ r. andThen r (λ t. gathered s w (c .loop-part .place + sizeOf (w .width) p) t rest)) taken)
-    ∙ sym (ap (gathered s w (c .loop-part .place) old) more)
-    ∙ c .loop-part .inv .0,
-    omega (arith, c .loop-part .inv .1), omega (arith, c .loop-part .inv .2))
+    let count : c .in-Continue-noted .noted .count ≡ c .loop-part .noted .count + roundOnly p = c .in-Continue-noted .ensures tt .counted in (
+      ap (λ (n : ℕ). gathered s w (c .loop-part .place + n) (seen (c .in-Continue-noted .noted)) rest) size
+          ∙ sym (ap (λ r. andThen r (λ t. gathered s w (c .loop-part .place + sizeOf (w .width) p) t rest)) taken)
+          ∙ sym (ap (gathered s w (c .loop-part .place) old) more)
+          ∙ c .loop-part .inv .0,
+      omega (arith, c .loop-part .inv .1),
+      omega (arith, c .loop-part .inv .2),
+    )

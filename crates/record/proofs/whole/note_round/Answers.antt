@@ -16,5 +16,8 @@ returns g c =
     let x = c .in-Continue-round .round in
     let h : old .count < length (old .challenges) = omega arith in
     let cs = take-more-set (old .challenges) (old .count) (x .challenge) h in
-    record { counted = refl; noted = (λ i. Ok (record { z = c .fold-commitments .ensures i; challenges = cs i; last-pair = (old .a, old .b) }))
-    ∙ sym (ap (λ r. andThen r (λ y. Ok (withRound s y (seen old)))) (sym (c .read-round .ensures) ∙ c .in-Continue-round .was tt)) }
+    record {
+      counted = refl;
+      noted = (λ i. Ok (record { z = c .fold-commitments .ensures i; challenges = cs i; last-pair = (old .a, old .b) }))
+          ∙ sym (ap (λ r. andThen r (λ y. Ok (withRound s y (seen old)))) (sym (c .read-round .ensures) ∙ c .in-Continue-round .was tt));
+    }

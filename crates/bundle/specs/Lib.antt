@@ -1,0 +1,5 @@
+pub mod Faults
+pub mod Layout
+pub mod Bodies
+pub mod Laws
+pub mod Checks
