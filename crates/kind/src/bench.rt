@@ -1,6 +1,5 @@
 // The bench lists, over which examples and programs check.
 use crate::kind::Kind;
-use crate::powers::power;
 ghost use mathlib.Core.Path.{_≡_};
 ghost use lib.ListN.{length};
 ghost use Rattle.kind.specs.Bench.{benchEntries};
@@ -10,6 +9,6 @@ pub fn fill_bench<K: Kind>(entries: &mut [K::Entry])
     ensures { λ _. ⌜ now (entries .exit) ≡ benchEntries (K·Kind .meaning) (length (now (entries .entry))) ⌝ }
 {
     for i in 0..entries.len() {
-        entries[i] = power(K::base(), (2 + i % 9) as u32).to_entry();
+        entries[i] = K::base().power((2 + i % 9) as u32).to_entry();
     }
 }

@@ -1,10 +1,9 @@
-// Lists of entries: checking them, reading elements from them, clearing them.
+// Lists of entries: checking them and clearing them.
 use crate::fault::KindFault;
 use crate::kind::Kind;
 ghost use mathlib.Core.Path.{_≡_};
-ghost use Prim.Native.Nat.{_<_};
-ghost use lib.ListN.{length, getD, replicate};
-ghost use Rattle.kind.specs.Kinds.{elements, unitEntry, All-elements};
+ghost use lib.ListN.{length, replicate};
+ghost use Rattle.kind.specs.Kinds.{unitEntry};
 ghost use Rattle.kind.specs.Products.{entriesRefusal};
 
 // Refuses the first entry that is no element's by 11.
@@ -17,15 +16,6 @@ pub fn check_entries<K: Kind>(entries: &[K::Entry]) -> Result<(), KindFault>
         }
     }
     Ok(())
-}
-
-// The element at a place of a list that was checked. Plumbing: it tests nothing again.
-pub fn element_at<K: Kind>(entries: &[K::Entry], i: usize) -> K
-    requires checked { ⌜ All-elements (K·Kind .meaning) (now entries) ⌝ }
-    requires within { ⌜ i < length (now entries) ⌝ }
-    ensures { λ r. ⌜ r ≡ getD (elements (K·Kind .meaning) (now (entries .entry))) i (K·Kind .meaning .group .unit) ⌝ }
-{
-    K::from_known(entries[i])
 }
 
 // Writes the unit's entry at each place.

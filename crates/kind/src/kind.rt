@@ -1,8 +1,12 @@
 // A commutative group of prime order whose elements have plain entries in lists.
 use crate::fault::KindFault;
 ghost use mathlib.Core.Path.{_≡_};
+ghost use Prim.Native.Nat.{_<_};
+ghost use lib.ListN.{length, getD};
+ghost use denote.Ref.{now};
 ghost use Rattle.std.specs.Options.{okOr};
-ghost use Rattle.kind.specs.Kinds.{Meaning, Lawful};
+ghost use Rattle.protocol.specs.Group.{power as power-of, product as product-of};
+ghost use Rattle.kind.specs.Kinds.{Meaning, Lawful, elements, All-elements};
 ghost use Rattle.kind.specs.declared.fault.KindFault.the-variants.{NotAnElement};
 
 pub trait Kind: Copy {
@@ -39,4 +43,44 @@ pub trait Kind: Copy {
     fn from_known(e: Self::Entry) -> Self
         requires { ⌜ ((x : Self) × (meaning .entry x ≡ e)) ⌝ }
         ensures { λ r. ⌜ meaning .entry r ≡ e ⌝ };
+
+    // x joined e times over, by squaring.
+    fn power(self, e: u32) -> Self
+        ensures { λ r. ⌜ r ≡ power-of (meaning .group) self e ⌝ }
+    {
+        let mut acc = Self::unit();
+        let mut b = self;
+        let mut n = e;
+        while n > 0 {
+            if n % 2 == 1 {
+                acc = acc.join(b);
+            }
+            b = b.join(b);
+            n = n / 2;
+        }
+        acc
+    }
+
+    // The element at a place of a list that was checked. Plumbing: it tests nothing again.
+    fn element_at(entries: &[Self::Entry], i: usize) -> Self
+        requires checked { ⌜ All-elements meaning (now entries) ⌝ }
+        requires within { ⌜ i < length (now entries) ⌝ }
+        ensures { λ r. ⌜ r ≡ getD (elements meaning (now (entries .entry))) i (meaning .group .unit) ⌝ }
+    {
+        Self::from_known(entries[i])
+    }
+
+    // The joined powers of a list that was checked. Plumbing: it tests nothing again.
+    fn join_powers(entries: &[Self::Entry], scalars: &[u32]) -> Self
+        requires checked { ⌜ All-elements meaning (now entries) ⌝ }
+        requires long { ⌜ length (now scalars) ≡ length (now entries) ⌝ }
+        ensures { λ r. ⌜ r ≡ product-of (meaning .group) (elements meaning (now (entries .entry))) (now (scalars .entry)) ⌝ }
+    {
+        let mut total = Self::unit();
+        for i in 0..entries.len() {
+            let x = Self::element_at(entries, i);
+            total = total.join(x.power(scalars[i]));
+        }
+        total
+    }
 }

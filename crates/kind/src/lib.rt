@@ -9,7 +9,6 @@ pub mod kind;
 pub mod modular;
 pub mod pair;
 pub mod pairs;
-pub mod powers;
 pub mod products;
 pub mod residue;
 pub mod residues;

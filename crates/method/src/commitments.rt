@@ -3,7 +3,6 @@ use kind::kind::Kind;
 use kind::modular::mul_scalars;
 use kind::pair::Pair;
 use kind::pairs::PairKind;
-use kind::powers::power;
 ghost use mathlib.Core.Path.{_≡_};
 ghost use Rattle.method.specs.Commitments.{foldCommitments};
 
@@ -12,7 +11,7 @@ pub fn fold_commitments<K: Kind>(lower: Pair<K>, z: Pair<K>, upper: Pair<K>, c: 
     ensures { λ r. ⌜ r ≡ foldCommitments (K·Kind .meaning) c lower z upper ⌝ }
 {
     let cc = mul_scalars::<K>(c, c);
-    let far = power(lower, cc);
-    let near = power(z, c);
+    let far = lower.power(cc);
+    let near = z.power(c);
     far.join(near).join(upper)
 }

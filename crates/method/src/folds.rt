@@ -1,8 +1,6 @@
 // Folding lists of elements.
 use crate::side::Side;
-use kind::entries::element_at;
 use kind::kind::Kind;
-use kind::powers::power;
 ghost use mathlib.Core.Path.{_≡_};
 ghost use mathlib.Core.List.{map};
 ghost use Prim.Native.Nat.{_+_, _≤_};
@@ -14,8 +12,8 @@ fn fold_pair<K: Kind>(side: Side, c: u32, x: K, y: K) -> K
     ensures { λ r. ⌜ r ≡ foldPair (K·Kind .meaning) side c x y ⌝ }
 {
     match side {
-        Side::OfG => power(x, c).join(y),
-        Side::OfH => x.join(power(y, c)),
+        Side::OfG => x.power(c).join(y),
+        Side::OfH => x.join(y.power(c)),
     }
 }
 
@@ -27,8 +25,8 @@ pub(crate) fn fold_into<K: Kind>(side: Side, c: u32, src: &[K::Entry], out: &mut
 {
     let m = out.len();
     for i in 0..m {
-        let x = element_at::<K>(src, i);
-        let y = element_at::<K>(src, m + i);
+        let x = K::element_at(src, i);
+        let y = K::element_at(src, m + i);
         out[i] = fold_pair(side, c, x, y).to_entry();
     }
 }
@@ -41,8 +39,8 @@ pub(crate) fn fold_within<K: Kind>(side: Side, c: u32, m: usize, work: &mut [K::
     ensures folded { λ _. ⌜ take m (elements (K·Kind .meaning) (now (work .exit))) ≡ foldOf (K·Kind .meaning) side c (take (m + m) (elements (K·Kind .meaning) (now (work .entry)))) ⌝ }
 {
     for i in 0..m {
-        let x = element_at::<K>(work, i);
-        let y = element_at::<K>(work, m + i);
+        let x = K::element_at(work, i);
+        let y = K::element_at(work, m + i);
         work[i] = fold_pair(side, c, x, y).to_entry();
     }
 }

@@ -4,7 +4,6 @@ use crate::folds::fold_within;
 use crate::last_pair::passes;
 use crate::method::Method;
 use crate::side::Side;
-use kind::entries::element_at;
 use kind::kind::Kind;
 use kind::pair::Pair;
 ghost use mathlib.Core.Path.{_≡_};
@@ -29,7 +28,7 @@ fn halve<K: Kind>(side: Side, cs: &[u32], src: &[K::Entry], work: &mut [K::Entry
         m = m / 2;
         fold_within::<K>(side, cs[i] % q, m, work);
     }
-    element_at::<K>(work, 0)
+    K::element_at(work, 0)
 }
 
 // The one element that folding leaves. A list of one needs no fold.
@@ -40,7 +39,7 @@ fn last<K: Kind>(side: Side, cs: &[u32], src: &[K::Entry], work: &mut [K::Entry]
     ensures { λ r. ⌜ r ≡ getD (foldsOf (K·Kind .meaning) side (reduced (K·Kind .meaning) (now (cs .entry))) (elements (K·Kind .meaning) (now (src .entry)))) 0 (K·Kind .meaning .group .unit) ⌝ }
 {
     if cs.len() == 0 {
-        element_at::<K>(src, 0)
+        K::element_at(src, 0)
     } else {
         halve::<K>(side, cs, src, work)
     }

@@ -2,7 +2,6 @@
 use kind::kind::Kind;
 use kind::modular::mul_scalars;
 use kind::pair::Pair;
-use kind::powers::power;
 ghost use mathlib.Core.Path.{_≡_};
 ghost use Prim.Native.Nat.{_^_, _≤_};
 ghost use lib.ListN.{length, replicate};
@@ -13,9 +12,9 @@ pub(crate) fn passes<K: Kind>(z: Pair<K>, key: K, x: K, y: K, a: u32, b: u32) ->
     ensures { λ r. ⌜ r ≡ passes-of (K·Kind .meaning) z key x y a b ⌝ }
 {
     let ab = mul_scalars::<K>(a, b);
-    let left = power(x, a);
-    let right = power(y, b);
-    let total = power(key, ab);
+    let left = x.power(a);
+    let right = y.power(b);
+    let total = key.power(ab);
     let one = left.same(z.a);
     let two = right.join(total).same(z.b);
     one && two

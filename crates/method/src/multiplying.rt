@@ -4,7 +4,6 @@ use crate::method::Method;
 use crate::weights::fill_weights;
 use kind::kind::Kind;
 use kind::pair::Pair;
-use kind::products::join_powers;
 ghost use mathlib.Core.Path.{_≡_};
 
 #[derive(Clone, Copy)]
@@ -25,9 +24,9 @@ pub impl Method for MultiplyingOut as MultiplyingOutMethod {
         numbers: &mut [u32],
     ) -> bool {
         fill_weights::<K>(cs, numbers);
-        let y = join_powers::<K>(h, numbers);
+        let y = K::join_powers(h, numbers);
         numbers.reverse();
-        let x = join_powers::<K>(g, numbers);
+        let x = K::join_powers(g, numbers);
         passes(z, key, x, y, a, b)
     }
 }
