@@ -1,3 +1,4 @@
+pub mod Steps
 pub mod Scans
 pub mod Listed
 pub mod Squares

@@ -1,3 +1,4 @@
+pub mod Both
 pub mod Constants
 pub mod Modular
 pub mod Faults

@@ -7,19 +7,8 @@ use native.Mathlib.Nat.{mul-mod-right, mul-comm, mul-le-mul, two-pow-succ}
 use native.Mathlib.Decide.{decLt}
 use native.Mathlib.Omega.{arith}
 use lib.Dec.{T, T-not, eqb, eqb-refl, lit≤}
+use Rattle.kind.specs.Both.{both, both-left, both-right}
 use Rattle.protocol.specs.Group.{Divides, Prime}
-
-abbrev both : Bool → Bool → Bool
-both true b = b
-both false b = false
-
-both-left : (a b : Bool) → T (both a b) → T a
-both-left true b t = tt
-both-left false b t = absurd t
-
-both-right : (a b : Bool) → T (both a b) → T b
-both-right true b t = t
-both-right false b t = absurd t
 
 -- the test f passes at each of the 2 ^ k numbers from a on
 abbrev every : (ℕ → Bool) → ℕ → ℕ → Bool

@@ -6,6 +6,7 @@ use Rattle.std.specs.declared.option.Option.{Option}
 use Rattle.std.specs.declared.option.Option.the-variants.{Some, None}
 use Rattle.protocol.specs.Group.{Group, Laws, power}
 use Rattle.protocol.proofs.Powers.{pow-zero, pow-suc}
+use Rattle.kind.specs.Both.{both-true}
 use Rattle.kind.specs.Kinds.{Meaning, Lawful}
 use Rattle.kind.specs.declared.pair.Pair.{Pair}
 
@@ -39,11 +40,6 @@ pairMeaning s = record {
 pub power-pair : {M : Type 0} (g : Group M) (x : Pair M) (n : ℕ) → power (pairGroup g) x n ≡ pairOf (power g (x .a) n) (power g (x .b) n)
 power-pair g x zero = simp pow-zero
 power-pair g x (suc n) = simp (pow-suc, power-pair g x n)
-
-both-true : (s t : Bool) → (s && t) ≡ true → (s ≡ true) × (t ≡ true)
-both-true true true e = (refl, refl)
-both-true true false e = (refl, e)
-both-true false t e = (e, cc)
 
 module _ {M E : Type 0} (s : Meaning M E) (laws : Lawful s) where
   pair-only : (e : E × E) (x : Pair M) → pairMeaning s .element e ≡ Some x → pairMeaning s .entry x ≡ e

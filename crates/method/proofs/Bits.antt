@@ -8,19 +8,8 @@ use native.Mathlib.Omega.{arith}
 use lib.Dec.{T, eqb, leb, ltb, eqb→eq, leb→le, ltb→lt}
 use lib.ListN.{length, getD, replicate}
 use lib.Pow.{pow-mono}
+use Rattle.kind.specs.Both.{both, both-left, both-right}
 use Rattle.method.specs.HighestBit.{Highest-bit}
-
-abbrev both : Bool → Bool → Bool
-both true b = b
-both false b = false
-
-both-left : (a b : Bool) → T (both a b) → T a
-both-left true b t = tt
-both-left false b t = t
-
-both-right : (a b : Bool) → T (both a b) → T b
-both-right true b t = t
-both-right false b t = absurd t
 
 -- the test f passes at each entry of the list and its place, counted from i
 abbrev every : (ℕ → ℕ → Bool) → ℕ → List ℕ → Bool

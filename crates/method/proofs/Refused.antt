@@ -14,32 +14,9 @@ use Rattle.kind.specs.Faults.{andThen, firstOf, unless, wrapped}
 use Rattle.kind.specs.Kinds.{Meaning, Lawful, All-elements}
 use Rattle.kind.specs.Products.{entriesRefusal}
 use Rattle.kind.proofs.Listed.{all-checked}
+use Rattle.kind.proofs.Steps.{both-went, held, unwrapped}
+use Rattle.method.specs.declared.fault.MethodFault.the-variants.{Length, Room, Kind}
 use Rattle.method.specs.Meaning.{sizeRefusal, lengthRefusal, roomRefusal, lengthRefusals, contentRefusals}
-
-pub stopped : {T F : Type 0} (r : Result Unit F) (f : Unit → Result T F) (e : F) → r ≡ Err e → andThen r f ≡ Err e
-stopped r f e h = ap (λ x. andThen x f) h
-
-pub went : {T F : Type 0} (r : Result Unit F) (f : Unit → Result T F) (t : Result T F) → r ≡ Ok tt → f tt ≡ t → andThen r f ≡ t
-went r f t h e = ap (λ x. andThen x f) h ∙ e
-
--- the refusals of two lists, one after the other
-pub first-append : {F : Type 0} (xs ys : List (Result Unit F)) → firstOf (xs ++ ys) ≡ andThen (firstOf xs) (λ _. firstOf ys)
-first-append [] ys = refl
-first-append (Ok x ∷ xs) ys = first-append xs ys
-first-append (Err e ∷ xs) ys = refl
-
--- both steps went well
-pub steps : {T F : Type 0} (r : Result Unit F) (f : Unit → Result T F) (u : T) → andThen r f ≡ Ok u → (r ≡ Ok tt) × (f tt ≡ Ok u)
-steps (Ok x) f u e = (refl, e)
-steps (Err x) f u e = (cc, cc)
-
-pub passed : {F : Type 0} (b : Bool) (fault : F) → unless b fault ≡ Ok tt → b ≡ true
-passed true fault e = refl
-passed false fault e = cc
-
-placed : {E F : Type 0} (up : E → ℕ → F) (r : Result Unit E) → wrapped up r 0 ≡ Ok tt → r ≡ Ok tt
-placed up (Ok x) e = refl
-placed up (Err x) e = cc
 
 -- the first n of a list were lent, and are u now
 pub cleared-part : {A : Type 0} (xs ys : List A) (n m : ℕ) (u : A) → n ≡ m → m ≤ length xs → ys ≡ replicate (length (take (n - 0) xs)) u
@@ -59,22 +36,22 @@ pub record Shaped (n g h elements numbers : ℕ) : Type 0 where
 
 pub shaped : (n g h elements numbers : ℕ) → firstOf (lengthRefusals n g h elements numbers) ≡ Ok tt → Shaped n g h elements numbers
 shaped n g h elements numbers e =
-    let a = steps (sizeRefusal g) _ tt e in
-    let b = steps (sizeRefusal h) _ tt (a .1) in
-    let c = steps (lengthRefusal n g) _ tt (b .1) in
-    let d = steps (lengthRefusal n h) _ tt (c .1) in
-    let f = steps (roomRefusal n elements) _ tt (d .1) in
-    let l = steps (roomRefusal n numbers) _ tt (f .1) in
+    let a = both-went (sizeRefusal g) _ tt e in
+    let b = both-went (sizeRefusal h) _ tt (a .2) in
+    let c = both-went (lengthRefusal n g) _ tt (b .2) in
+    let d = both-went (lengthRefusal n h) _ tt (c .2) in
+    let f = both-went (roomRefusal n elements) _ tt (d .2) in
+    let l = both-went (roomRefusal n numbers) _ tt (f .2) in
     record {
-      fits-g = eqb-true g n (passed (eqb g n) _ (c .0));
-      fits-h = eqb-true h n (passed (eqb h n) _ (d .0));
-      room-e = leb-true n elements (passed (leb n elements) _ (f .0));
-      room-n = leb-true n numbers (passed (leb n numbers) _ (l .0));
+      fits-g = eqb-true g n (held (eqb g n) (Length g) (c .0) (c .1));
+      fits-h = eqb-true h n (held (eqb h n) (Length h) (d .0) (d .1));
+      room-e = leb-true n elements (held (leb n elements) (Room elements) (f .0) (f .1));
+      room-n = leb-true n numbers (held (leb n numbers) (Room numbers) (l .0) (l .1));
     }
 
 module _ {M E : Type 0} (s : Meaning M E) (laws : Lawful s) where
   pub all-both : (gs hs : List E) (a b : ℕ) → firstOf (contentRefusals s gs hs a b) ≡ Ok tt → All-elements s gs × All-elements s hs
   all-both gs hs a b e =
-      let p = steps (wrapped _ (entriesRefusal s gs) 0) _ tt e in
-      let r = steps (wrapped _ (entriesRefusal s hs) 0) _ tt (p .1) in
-      (all-checked s laws gs (placed _ (entriesRefusal s gs) (p .0)), all-checked s laws hs (placed _ (entriesRefusal s hs) (r .0)))
+      let p = both-went (wrapped Kind (entriesRefusal s gs) 0) _ tt e in
+      let r = both-went (wrapped Kind (entriesRefusal s hs) 0) _ tt (p .2) in
+      (all-checked s laws gs (unwrapped Kind (entriesRefusal s gs) 0 (p .0) (p .1)), all-checked s laws hs (unwrapped Kind (entriesRefusal s hs) 0 (r .0) (r .1)))

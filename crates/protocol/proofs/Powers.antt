@@ -1,10 +1,9 @@
 -- The laws of powers. Assumes nothing.
-use mathlib.Core.Path.{_≡_, refl, sym, ap, ap₂, _∙_}
-use mathlib.Core.List.{List, [], _∷_, map}
+use mathlib.Core.Path.{_≡_, refl, sym, ap, _∙_}
 use Prim.Native.Nat.{ℕ, zero, suc, _+_, _*_, _/_, _%_}
 use native.Mathlib.Nat.{zero-add, suc-add, mul-zero, mul-suc, div-add-mod}
 use native.Mathlib.Omega.{arith}
-use Rattle.protocol.specs.Group.{Group, power, Laws, product}
+use Rattle.protocol.specs.Group.{Group, power, Laws}
 
 module _ {E : Type 0} (o : Group E) where
   pub pow-zero : (x : E) → power o x zero ≡ o .unit
@@ -42,11 +41,6 @@ module _ {E : Type 0} {q : ℕ} {o : Group E} (laws : Laws q o) where
   pow-mod x e =
       let whole : power o x (q * (e / q)) ≡ o .unit = sym (pow-pow x q (e / q)) ∙ ap (λ y. power o y (e / q)) (laws .order x) ∙ pow-unit (e / q) in
       sym (ap (power o x) (sym (div-add-mod e q)) ∙ pow-add x (q * (e / q)) (e % q) ∙ ap (λ y. o .join y (power o x (e % q))) whole ∙ laws .unit-left (power o x (e % q)))
-
-  pub prod-mod : (xs : List E) (es : List ℕ) → product o xs (map (λ e. e % q) es) ≡ product o xs es
-  prod-mod [] es = refl
-  prod-mod (x ∷ xs) [] = refl
-  prod-mod (x ∷ xs) (e ∷ es) = ap₂ (o .join) (pow-mod x e) (prod-mod xs es)
 
   -- a power of a square, for powers by squaring
   pow-square : (x : E) (n : ℕ) → power o (o .join x x) n ≡ power o x (n + n)

@@ -13,7 +13,8 @@ use Rattle.protocol.specs.Group.{Group, power, Laws, product}
 use Rattle.protocol.specs.Halving.{first-half, last-half, fold-g, fold-h, folds-g, folds-h}
 use Rattle.protocol.specs.Weights.{H-weights, g-weights}
 use Rattle.protocol.proofs.Rows.{Rows, none, more, rows}
-use Rattle.protocol.proofs.Powers.{pow-zero, pow-suc as one-more, unit-right, left-comm, pow-op, pow-pow, pow-mod}
+use Rattle.protocol.proofs.Powers.{unit-right, left-comm, pow-op, pow-pow, pow-mod}
+use Rattle.protocol.proofs.Order.{pow-one}
 use Rattle.protocol.proofs.Claims.{prod-halves, half-length}
 
 -- the weights by halves: the top bit belongs to the first round
@@ -115,9 +116,6 @@ table-weights q (c ∷ cs) =
     }
 
 module _ {E : Type 0} {q : ℕ} {o : Group E} (laws : Laws q o) where
-  pow-one : (x : E) → power o x 1 ≡ x
-  pow-one x = one-more o x 0 ∙ ap (o .join x) (pow-zero o x) ∙ unit-right laws x
-
   step-h : (c : ℕ) (x y : E) (w : ℕ) (s t : E)
       → o .join (power o (o .join x (power o y c)) w) (o .join s t) ≡ o .join (o .join (power o x w) s) (o .join (power o y (times q c w)) t)
   step-h c x y w s t = simp (pow-mod laws, pow-op laws, pow-pow laws, mul-comm, laws .assoc, laws .comm, left-comm laws)
@@ -138,7 +136,7 @@ module _ {E : Type 0} {q : ℕ} {o : Group E} (laws : Laws q o) where
 
   one-left : (w : ℕ) (xs : List E) → length xs ≡ 1 → w ≡ 1 → xs ≡ product o xs (w ∷ []) ∷ []
   one-left w [] h e = absurd (omega arith)
-  one-left w (x ∷ []) h e = ap (λ y. y ∷ []) (sym (unit-right laws (power o x w) ∙ ap (power o x) e ∙ pow-one x))
+  one-left w (x ∷ []) h e = ap (λ y. y ∷ []) (sym (unit-right laws (power o x w) ∙ ap (power o x) e ∙ pow-one laws x))
   one-left w (x ∷ (y ∷ xs)) h e = absurd (omega arith)
 
   -- rows of the halves of xs beside a list of weights for one half

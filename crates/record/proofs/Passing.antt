@@ -9,6 +9,8 @@ use lib.ListN.{length, take, drop}
 use borrow.Author.Tests.{ltb-true, leb-true, le-leb, le-ltb, ne-eqb}
 use Rattle.std.specs.declared.result.Result.{Result}
 use Rattle.std.specs.declared.result.Result.the-variants.{Ok, Err}
+use Rattle.kind.proofs.Steps.{both-went, held, passed-on}
+use Rattle.kind.specs.Both.{both-true}
 use Rattle.kind.specs.Bytes.{Writing, numberIn}
 use Rattle.kind.specs.Faults.{andThen, firstOf, unless, wrapped, firstBad}
 use Rattle.method.specs.Entries.{outside}
@@ -24,32 +26,13 @@ use Rattle.record.specs.declared.fault.RecordFault.{RecordFault}
 use Rattle.record.specs.declared.fault.RecordFault.the-variants.{Length, TooManyRounds as TooMany, NotAChallenge as NotAChallengeAt}
 use Rattle.record.specs.declared.round.Round.{Round}
 
--- a step that only passes a value on, where it went well
-pub passed-on : {T F : Type 0} (r : Result Unit F) (n k : T) → andThen r (λ _. Ok n) ≡ Ok k → (r ≡ Ok tt) × (andThen r (λ _. Ok n) ≡ Ok n) × (k ≡ n)
-passed-on (Ok x) n k e = (refl, refl, cc)
-passed-on (Err f) n k e = (cc, cc, cc)
-
--- two steps went well
-pub both-went : {T U F : Type 0} (r : Result T F) (f : T → Result U F) (u : U) → andThen r f ≡ Ok u → (x : T) × (r ≡ Ok x) × (f x ≡ Ok u)
-both-went (Ok x) f u e = (x, refl, e)
-both-went (Err g) f u e = absurd (let z : _≡_ {A = ℕ} 0 1 = cc in omega arith)
-
 pub cleared-wrapped : {T E F A : Type 0} (up : E → ℕ → F) (r : Result T E) (n : ℕ) (x : A) (xs : List A) → cleared r n x xs ≡ cleared (wrapped up r 0) n x xs
 cleared-wrapped up (Ok b) n x xs = refl
 cleared-wrapped up (Err e) n x xs = refl
 
-held : (b : Bool) (f : RecordFault) (x : Unit) → unless b f ≡ Ok x → b ≡ true
-held true f x e = refl
-held false f x e = cc
-
 taken : (b : Bool) (n k : ℕ) (f : RecordFault) → cond b (Ok n) (Err f) ≡ Ok k → (b ≡ true) × (k ≡ n)
 taken true n k f e = (refl, cc)
 taken false n k f e = (cc, cc)
-
-both-true : (s t : Bool) → (s && t) ≡ true → (s ≡ true) × (t ≡ true)
-both-true true true e = (refl, refl)
-both-true true false e = (refl, e)
-both-true false t e = (e, cc)
 
 -- a number from 1 to 2 ^ 31 - 1 is one for a table
 inside : (c : ℕ) → 0 < c → c < 2147483648 → outside c ≡ false

@@ -11,7 +11,8 @@ use Rattle.record.specs.Contents.{contentsIn}
 use Rattle.record.specs.Folded.{Reckoned, reckoned, seen, seenIn}
 use Rattle.record.specs.Parts.{roundsIn}
 use Rattle.record.specs.declared.fault.RecordFault.the-variants.{Method}
-use Rattle.record.proofs.Passing.{both-went, contents-facts}
+use Rattle.kind.proofs.Steps.{both-went}
+use Rattle.record.proofs.Passing.{contents-facts}
 use Rattle.record.proofs.check.check_record.Needs as need
 
 pub returns : need.returns

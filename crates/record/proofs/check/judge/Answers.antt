@@ -10,7 +10,8 @@ use Rattle.method.specs.Tables.{challenges, listed, tableAnswer}
 use Rattle.record.specs.Answers.{reckonedAnswer}
 use Rattle.record.specs.Folded.{seen}
 use Rattle.record.specs.declared.fault.RecordFault.the-variants.{Method}
-use Rattle.record.proofs.Passing.{passed-on, cleared-wrapped}
+use Rattle.kind.proofs.Steps.{passed-on}
+use Rattle.record.proofs.Passing.{cleared-wrapped}
 use Rattle.record.proofs.check.judge.Needs as need
 
 pub returns-in-Ok : need.returns-in-Ok

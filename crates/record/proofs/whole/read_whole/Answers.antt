@@ -6,7 +6,7 @@ use Rattle.kind.specs.Faults.{andThen}
 use Rattle.record.specs.Contents.{shapeIn, bodyIn}
 use Rattle.record.specs.Folded.{reckoned}
 use Rattle.record.specs.Parts.{roundsIn}
-use Rattle.record.proofs.Passing.{passed-on}
+use Rattle.kind.proofs.Steps.{passed-on}
 use Rattle.record.proofs.Reckoning.{whole-gathered}
 use Rattle.record.proofs.whole.read_whole.Needs as need
 

@@ -13,7 +13,8 @@ use Rattle.method.specs.Meaning.{lengthRefusals, contentRefusals, methodRefuse
 use Rattle.kind.specs.declared.pair.Pair.{Pair}
 use Rattle.method.specs.Tables.{challenges}
 use Rattle.method.specs.declared.fault.MethodFault.{MethodFault}
-use Rattle.method.proofs.Refused.{first-append, shaped, all-both, stopped, went, cleared-part, part-length}
+use Rattle.kind.proofs.Steps.{first-append, stopped, went}
+use Rattle.method.proofs.Refused.{shaped, all-both, cleared-part, part-length}
 use Rattle.method.proofs.method.Method.verdict.Needs as need
 
 -- the refusals of lengths come first, then those of content, then the verdict
@@ -28,13 +29,13 @@ module _ {M E : Type 0} (s : Meaning M E) (cs : List ℕ) (z : Pair M) (gs hs : 
 
   by-content : (f : MethodFault) → firstOf (lengthRefusals (2 ^ length cs) (length gs) (length hs) we wn) ≡ Ok tt
       → firstOf (contentRefusals s gs hs a b) ≡ Err f → methodAnswer s cs z gs hs k a b we wn ≡ Err f
-  by-content f d e = stopped (methodRefused s cs gs hs a b we wn) (λ _. Ok (verdictOf s cs z gs hs k a b)) f (parts ∙ went _ (λ _. firstOf (contentRefusals s gs hs a b)) (Err f) d e)
+  by-content f d e = stopped (methodRefused s cs gs hs a b we wn) (λ _. Ok (verdictOf s cs z gs hs k a b)) f (parts ∙ went _ (λ _. firstOf (contentRefusals s gs hs a b)) tt (Err f) d e)
 
   by-verdict : firstOf (lengthRefusals (2 ^ length cs) (length gs) (length hs) we wn) ≡ Ok tt
       → firstOf (contentRefusals s gs hs a b) ≡ Ok tt → methodAnswer s cs z gs hs k a b we wn ≡ Ok (verdictOf s cs z gs hs k a b)
   by-verdict d e =
-      went (methodRefused s cs gs hs a b we wn) (λ _. Ok (verdictOf s cs z gs hs k a b)) (Ok (verdictOf s cs z gs hs k a b))
-      (parts ∙ went _ (λ _. firstOf (contentRefusals s gs hs a b)) (Ok tt) d e) refl
+      went (methodRefused s cs gs hs a b we wn) (λ _. Ok (verdictOf s cs z gs hs k a b)) tt (Ok (verdictOf s cs z gs hs k a b))
+      (parts ∙ went _ (λ _. firstOf (contentRefusals s gs hs a b)) tt (Ok tt) d e) refl
 
 pub returns-in-Break-check-lengths : need.returns-in-Break-check-lengths
 returns-in-Break-check-lengths g c =
