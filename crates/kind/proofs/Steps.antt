@@ -39,3 +39,12 @@ unwrapped up (Err y) place x e = cc
 pub passed-on : {T F : Type 0} (r : Result Unit F) (n k : T) → andThen r (λ _. Ok n) ≡ Ok k → (r ≡ Ok tt) × (andThen r (λ _. Ok n) ≡ Ok n) × (k ≡ n)
 passed-on (Ok x) n k e = (refl, refl, cc)
 passed-on (Err f) n k e = (cc, cc, cc)
+
+-- no test of a row refuses
+pub data All-pass {F : Type 0} : List (Result Unit F) → Type 0 where
+  none : All-pass []
+  more : {r : Result Unit F} {rs : List (Result Unit F)} {x : Unit} → r ≡ Ok x → All-pass rs → All-pass (r ∷ rs)
+
+pub all-pass : {F : Type 0} {rs : List (Result Unit F)} → All-pass rs → firstOf rs ≡ Ok tt
+all-pass none = refl
+all-pass (more {rs} h rest) = ap (λ t. andThen t (λ _. firstOf rs)) h ∙ all-pass rest

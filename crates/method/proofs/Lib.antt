@@ -3,3 +3,4 @@ pub mod Foldings
 pub mod Bits
 pub mod Weighing
 pub mod Sized
+pub mod QuickChecks

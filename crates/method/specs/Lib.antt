@@ -6,3 +6,4 @@ pub mod Sides
 pub mod HighestBit
 pub mod Theorems
 pub mod Commitments
+pub mod QuickCheck

@@ -1,0 +1,5 @@
+pub mod Faults
+pub mod Ledger
+pub mod Rules
+pub mod Promise
+pub mod Script
