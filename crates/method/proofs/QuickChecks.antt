@@ -6,7 +6,7 @@ use Prim.Native.Nat.{ℕ, _*_, _%_, _^_, _≤_, _<_}
 use native.Mathlib.Omega.{arith}
 use lib.Dec.{ltb, eqb, leb}
 use lib.ListN.{length}
-use borrow.Author.Tests.{eqb-true, ltb-true}
+use borrow.Author.Tests.{eqb-true, leb-true, ltb-true}
 use Rattle.std.proofs.shelf.Lists.{length-map}
 use Rattle.std.specs.declared.result.Result.{Result}
 use Rattle.std.specs.declared.result.Result.the-variants.{Ok, Err}
@@ -17,19 +17,42 @@ use Rattle.protocol.specs.Weights.{H-weights}
 use Rattle.protocol.proofs.Quick.{decides}
 use Rattle.kind.specs.Both.{both-true}
 use Rattle.kind.specs.Faults.{andThen, firstOf, unless, wrapped}
-use Rattle.kind.specs.Kinds.{Meaning, Lawful, elements}
+use Rattle.kind.specs.Kinds.{Meaning, Lawful, elements, All-elements}
 use Rattle.kind.specs.Products.{entriesRefusal}
 use Rattle.kind.specs.declared.pair.Pair.{Pair}
-use Rattle.kind.proofs.Listed.{length-elements}
-use Rattle.kind.proofs.Steps.{both-went, held, All-pass, none, more, all-pass}
+use Rattle.kind.proofs.Listed.{length-elements, all-checked}
+use Rattle.kind.proofs.Steps.{both-went, held, unwrapped, All-pass, none, more, all-pass}
 use Rattle.method.specs.Meaning.{sizeRefusal, lengthRefusal, roomRefusal, scalarRefusal, lengthRefusals, contentRefusals, reduced, methodRefused, methodAnswer, verdictOf}
-use Rattle.method.specs.QuickCheck.{weightRefusal, quickRefused, quickPasses, quickAnswer, Quick-decides}
+use Rattle.method.specs.QuickCheck.{quickLengths, quickContent, weightRefusal, quickRefused, quickPasses, quickAnswer, Quick-decides}
 use Rattle.method.specs.declared.fault.MethodFault.{MethodFault}
-use Rattle.method.specs.declared.fault.MethodFault.the-variants.{Length, Kind, NotAChallenge}
+use Rattle.method.specs.declared.fault.MethodFault.the-variants.{Length, Room, Kind, NotAChallenge}
 
 no-fault : {T F : Type 0} (r : Result Unit F) (v u : T) → andThen r (λ _. Ok v) ≡ Ok u → (r ≡ Ok tt) × (v ≡ u)
 no-fault (Ok x) v u e = (refl, cc)
 no-fault (Err f) v u e = (cc, cc)
+
+-- what is known where nothing is refused
+pub record Quick-shaped (n g elements numbers : ℕ) : Type 0 where
+  pub fits-g : g ≡ n
+  pub room-e : n ≤ elements
+  pub room-n : n ≤ numbers
+
+pub quick-shaped : (n g elements numbers : ℕ) → firstOf (quickLengths n g elements numbers) ≡ Ok tt → Quick-shaped n g elements numbers
+quick-shaped n g elements numbers e =
+    let a = both-went (sizeRefusal g) _ tt e in
+    let c = both-went (lengthRefusal n g) _ tt (a .2) in
+    let f = both-went (roomRefusal n elements) _ tt (c .2) in
+    let l = both-went (roomRefusal n numbers) _ tt (f .2) in
+    record {
+      fits-g = eqb-true g n (held (eqb g n) (Length g) (c .0) (c .1));
+      room-e = leb-true n elements (held (leb n elements) (Room elements) (f .0) (f .1));
+      room-n = leb-true n numbers (held (leb n numbers) (Room numbers) (l .0) (l .1));
+    }
+
+pub quick-all : {M E : Type 0} (s : Meaning M E) (laws : Lawful s) (gs : List E) (a b w : ℕ) → firstOf (quickContent s gs a b w) ≡ Ok tt → All-elements s gs
+quick-all s laws gs a b w e =
+    let p = both-went (wrapped Kind (entriesRefusal s gs) 0) _ tt e in
+    all-checked s laws gs (unwrapped Kind (entriesRefusal s gs) 0 (p .0) (p .1))
 
 module _ {M E : Type 0} (s : Meaning M E) (laws : Lawful s) (cs ws : List ℕ) (good : H-weights (s .order) (reduced s cs) ws)
     (z : Pair M) (gs : List E) (k : M) (a b we wn : ℕ) where

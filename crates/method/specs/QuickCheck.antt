@@ -1,7 +1,7 @@
 -- What the quick check answers. Assumes nothing.
 use mathlib.Core.Path.{_≡_}
 use mathlib.Core.Bool.{Bool, true, false, _&&_}
-use mathlib.Core.List.{List, [], _∷_}
+use mathlib.Core.List.{List, [], _∷_, _++_}
 use Prim.Native.Nat.{ℕ, _*_, _^_}
 use lib.Dec.{ltb}
 use lib.ListN.{length}
@@ -18,25 +18,22 @@ use Rattle.method.specs.Meaning.{sizeRefusal, lengthRefusal, roomRefusal, scal
 use Rattle.method.specs.declared.fault.MethodFault.{MethodFault}
 use Rattle.method.specs.declared.fault.MethodFault.the-variants.{Kind, NotAChallenge}
 
+-- 5, 6 and 8 of a list of g entries, to be n long, and of the work lists
+abbrev pub quickLengths : ℕ → ℕ → ℕ → ℕ → List (Result Unit MethodFault)
+quickLengths n g we wn = sizeRefusal g ∷ lengthRefusal n g ∷ roomRefusal n we ∷ roomRefusal n wn ∷ []
+
 module _ {M E : Type 0} (s : Meaning M E) where
   -- 13 of a weight that is 0 or not below the order
   abbrev pub weightRefusal : ℕ → Result Unit MethodFault
   weightRefusal w = unless (ltb 0 w && ltb w (s .order)) (NotAChallenge 0)
 
+  -- 11 of the list, 12 of the last pair, 13 of the weight
+  abbrev pub quickContent : List E → ℕ → ℕ → ℕ → List (Result Unit MethodFault)
+  quickContent gs a b w = wrapped Kind (entriesRefusal s gs) 0 ∷ scalarRefusal s a ∷ scalarRefusal s b ∷ weightRefusal w ∷ []
+
   -- as a method refuses, with one list for G and H, and then 13 for the weight
   abbrev pub quickRefused : List ℕ → List E → ℕ → ℕ → ℕ → ℕ → ℕ → Result Unit MethodFault
-  quickRefused cs gs a b w we wn =
-      firstOf (
-        sizeRefusal (length gs)
-        ∷ lengthRefusal (2 ^ length cs) (length gs)
-        ∷ roomRefusal (2 ^ length cs) we
-        ∷ roomRefusal (2 ^ length cs) wn
-        ∷ wrapped Kind (entriesRefusal s gs) 0
-        ∷ scalarRefusal s a
-        ∷ scalarRefusal s b
-        ∷ weightRefusal w
-        ∷ []
-      )
+  quickRefused cs gs a b w we wn = firstOf (quickLengths (2 ^ length cs) (length gs) we wn ++ quickContent gs a b w)
 
   -- the one equation; ws are the H weights of the challenges modulo the order
   abbrev pub quickPasses : List ℕ → Pair M → List E → M → ℕ → ℕ → ℕ → Bool

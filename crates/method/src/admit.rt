@@ -14,7 +14,7 @@ fn is_size(n: usize) -> bool
     n == 1 || n == 2 || n == 4 || n == 8 || n == 16 || n == 32 || n == 64 || n == 128 || n == 256
 }
 
-fn check_size(n: usize) -> Result<(), MethodFault>
+pub(crate) fn check_size(n: usize) -> Result<(), MethodFault>
     ensures { λ r. ⌜ r ≡ sizeRefusal n ⌝ }
 {
     if is_size(n) {
@@ -24,7 +24,7 @@ fn check_size(n: usize) -> Result<(), MethodFault>
     }
 }
 
-fn check_length(n: usize, m: usize) -> Result<(), MethodFault>
+pub(crate) fn check_length(n: usize, m: usize) -> Result<(), MethodFault>
     ensures { λ r. ⌜ r ≡ lengthRefusal n m ⌝ }
 {
     if m == n {
@@ -34,7 +34,7 @@ fn check_length(n: usize, m: usize) -> Result<(), MethodFault>
     }
 }
 
-fn check_room(n: usize, m: usize) -> Result<(), MethodFault>
+pub(crate) fn check_room(n: usize, m: usize) -> Result<(), MethodFault>
     ensures { λ r. ⌜ r ≡ roomRefusal n m ⌝ }
 {
     if n <= m {
@@ -44,7 +44,7 @@ fn check_room(n: usize, m: usize) -> Result<(), MethodFault>
     }
 }
 
-fn check_scalar<K: Kind>(a: u32) -> Result<(), MethodFault>
+pub(crate) fn check_scalar<K: Kind>(a: u32) -> Result<(), MethodFault>
     ensures { λ r. ⌜ r ≡ scalarRefusal (K·Kind .meaning) a ⌝ }
 {
     if a < K::order() {

@@ -7,6 +7,7 @@ pub mod halving;
 pub mod last_pair;
 pub mod method;
 pub mod multiplying;
+pub mod quick;
 pub mod side;
 pub mod table;
 pub mod tables;

@@ -1,7 +1,7 @@
 -- The quick check says what the two equations of the last pair say. Assumes nothing.
 use mathlib.Core.Path.{_≡_, refl, sym, ap, ap₂, subst, _∙_}
 use mathlib.Core.List.{List, [], _∷_, reverse}
-use Prim.Native.Nat.{ℕ, _+_, _*_, _^_, _<_}
+use Prim.Native.Nat.{ℕ, _+_, _*_, _%_, _^_, _<_}
 use native.Mathlib.Nat.{mul-comm, mul-assoc, mul-left-comm}
 use native.Mathlib.Decide.{decLt}
 use native.Mathlib.Omega.{arith}
@@ -12,7 +12,7 @@ use Rattle.protocol.specs.Halving.{Passes, Folded-passes, folds-g, folds-h}
 use Rattle.protocol.specs.Weights.{H-weights, g-weights}
 use Rattle.protocol.specs.Quick.{Quick, Decides}
 use Rattle.protocol.proofs.Rows.{Rows, none, more, rows}
-use Rattle.protocol.proofs.Powers.{left-comm, pow-add, pow-unit, pow-op, pow-pow}
+use Rattle.protocol.proofs.Powers.{left-comm, pow-add, pow-unit, pow-op, pow-pow, pow-mod}
 use Rattle.protocol.proofs.Weights.{multiplies-out}
 use Rattle.protocol.proofs.Order.{two-equations}
 
@@ -26,6 +26,13 @@ module _ {E : Type 0} {q : ℕ} {o : Group E} (laws : Laws q o) where
       → product o gs (zip2 (λ x y. a * x + e * y) xs ys) ≡ o .join (power o (product o gs xs) a) (power o (product o gs ys) e)
   both-weights a e none = sym (ap₂ (o .join) (pow-unit laws a) (pow-unit laws e) ∙ laws .unit-left (o .unit))
   both-weights a e (more {x = g} {a = x} {b = y} rest) = ap (o .join _) (both-weights a e rest) ∙ step a e g x y _ _
+
+  -- the second scalar may be reduced first
+  pub weighted-mod : (a e : ℕ) (gs : List E) (xs ys : List ℕ) → length xs ≡ length gs → length ys ≡ length gs
+      → product o gs (zip2 (λ x y. a * x + e % q * y) xs ys) ≡ product o gs (zip2 (λ x y. a * x + e * y) xs ys)
+  weighted-mod a e gs xs ys hx hy =
+      let four = rows gs gs xs ys refl hx hy in
+      both-weights a (e % q) four ∙ ap (o .join (power o (product o gs xs) a)) (pow-mod laws (product o gs ys) e) ∙ sym (both-weights a e four)
 
   gather : (k g h : E) (a b w : ℕ) → o .join (o .join (power o g a) (power o h (w * b))) (power o k (w * a * b)) ≡ o .join (power o g a) (power o (o .join (power o h b) (power o k (a * b))) w)
   gather k g h a b w = simp (pow-op laws, pow-pow laws, mul-assoc, mul-comm, laws .assoc)
