@@ -31,7 +31,6 @@ use Rattle.ledger.specs.Ledger.{
   same-numbers,
   numbers-at,
   run,
-  final,
 }
 use Rattle.ledger.specs.Promise.{noted, case-from, newer, latest-from, beside, Fair, Honest-record, Promise}
 use Rattle.ledger.specs.Rules.{Lists, Follows}
@@ -142,11 +141,10 @@ module _ {M E : Type 0} {kind : Meaning M E} (laws : Lawful kind) (x : Lists M) 
       record { passes = fair .passes; taken = λ token. fair .taken (ap (λ (n : Answer). latest-from (newer a n) before) (sym at) ∙ token) }
 
 -- what was written on the way of the ledger keeps the promise
-pub promised : {M E : Type 0} {kind : Meaning M E} → Lawful kind → (start : Ledger M) (calls : List (Call M E)) (ls : List Line) (end : Ledger M)
-    → ls ≡ run kind start calls → end ≡ final kind start calls
-    → Promise kind start calls ls end
-promised {kind} laws start calls ls end is at-end = record {
-  ledger = (is, at-end);
+pub promised : {M E : Type 0} {kind : Meaning M E} → Lawful kind → (start : Ledger M) (calls : List (Call M E)) (ls : List Line)
+    → ls ≡ run kind start calls → Promise kind start calls ls
+promised {kind} laws start calls ls is = record {
+  ledger = is;
   honest = subst (λ (ys : List Line). Honest-record kind (beside calls ys)) (sym is)
       (λ before after o s p line e x key f.
         let fair = walk laws x key calls start [] None tt tt before after o s p line e f in

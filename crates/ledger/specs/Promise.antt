@@ -8,7 +8,7 @@ use Rattle.std.specs.declared.option.Option.{Option}
 use Rattle.std.specs.declared.option.Option.the-variants.{Some, None}
 use Rattle.kind.specs.Kinds.{Meaning, Lawful}
 use Rattle.method.specs.QuickCheck.{Quick-check}
-use Rattle.ledger.specs.Ledger.{Ledger, Call, opening, message, draw, last-pair, withdrawal, page-turn, Last, run, final}
+use Rattle.ledger.specs.Ledger.{Ledger, Call, opening, message, draw, last-pair, withdrawal, page-turn, Last, run}
 use Rattle.ledger.specs.Rules.{Lists, Follows}
 use Rattle.ledger.specs.declared.parts.Answer.{Answer}
 use Rattle.ledger.specs.declared.parts.Answer.the-variants.{Token, Verdict, Withdrawn, Turned, Refused}
@@ -79,10 +79,10 @@ Honest-record {M} {E} kind shown =
     → (x : Lists M) (key : M) → Follows kind x key (case-so-far before ++ (last-pair sort t p ∷ []))
     → Fair kind before sort t p (line .answer)
 
--- The whole promise of a run of calls from the ledger `start` to the ledger `end`, with the lines written.
-pub record Promise {M E : Type 0} (kind : Meaning M E) (start : Ledger M) (calls : List (Call M E)) (written : List Line) (end : Ledger M) : Type 0 where
+-- The whole promise of a run of calls from the ledger `start`, with the lines written.
+pub record Promise {M E : Type 0} (kind : Meaning M E) (start : Ledger M) (calls : List (Call M E)) (written : List Line) : Type 0 where
   -- all answers, refusals and pages are those of the ledger's run
-  pub ledger : (written ≡ run kind start calls) × (end ≡ final kind start calls)
+  pub ledger : written ≡ run kind start calls
   -- who follows the published rules passes
   pub honest : Honest-record kind (beside calls written)
   -- the quick check passes at every weight what the methods pass, and at one weight at most what they fail
@@ -91,5 +91,4 @@ pub record Promise {M E : Type 0} (kind : Meaning M E) (start : Ledger M) (calls
 -- It holds of the ledger's own run, for every kind that keeps the laws.
 abbrev pub Run-keeps-promise : Type 0 → Type 0 → Type 0
 Run-keeps-promise M E =
-    (kind : Meaning M E) → Lawful kind → (start : Ledger M) (calls : List (Call M E))
-    → Promise kind start calls (run kind start calls) (final kind start calls)
+    (kind : Meaning M E) → Lawful kind → (start : Ledger M) (calls : List (Call M E)) → Promise kind start calls (run kind start calls)

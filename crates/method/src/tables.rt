@@ -3,7 +3,7 @@ use crate::fault::MethodFault;
 use crate::table::ChallengeTable;
 use kind::bytes::cut;
 ghost use mathlib.Core.Path.{_≡_};
-ghost use mathlib.Core.List.{_++_};
+ghost use mathlib.Core.List.{[], _∷_, _++_};
 ghost use Prim.Native.Nat.{_-_, _^_, _≤_};
 ghost use lib.ListN.{length, replicate};
 ghost use Rattle.kind.specs.Faults.{firstBad};
@@ -50,6 +50,34 @@ impl ChallengeTable {
         Ok(ChallengeTable {
             entries: padded(entries),
             len: entries.len(),
+        })
+    }
+
+    // A table with no challenges yet.
+    pub fn empty() -> ChallengeTable
+        ensures { λ r. ⌜ challenges-of r ≡ [] ⌝ }
+    {
+        ChallengeTable {
+            entries: [0; 8],
+            len: 0,
+        }
+    }
+
+    // The table with one challenge more at its end, as if it were made of all of them.
+    pub fn with(self, c: u32) -> Result<ChallengeTable, MethodFault>
+        ensures { λ r. ⌜ listed r ≡ tableAnswer (challenges-of self ++ c ∷ []) ⌝ }
+    {
+        if self.len >= 8 {
+            return Err(MethodFault::TooManyRounds);
+        }
+        if is_outside(c) {
+            return Err(MethodFault::NotAChallenge(self.len));
+        }
+        let mut entries = self.entries;
+        entries[self.len] = c;
+        Ok(ChallengeTable {
+            entries,
+            len: self.len + 1,
         })
     }
 
