@@ -1,0 +1,4 @@
+// The station: tokens that move, one case at most, a page of four counts, and replay over lists of calls.
+pub mod case;
+pub mod state;
+pub mod tokens;
