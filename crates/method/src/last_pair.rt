@@ -20,7 +20,7 @@ pub(crate) fn passes<K: Kind>(z: Pair<K>, key: K, x: K, y: K, a: u32, b: u32) ->
     one && two
 }
 
-pub(crate) fn clear_numbers(numbers: &mut [u32])
+pub fn clear_numbers(numbers: &mut [u32])
     ensures { λ _. ⌜ now (numbers .exit) ≡ replicate (length (now (numbers .entry))) 0 ⌝ }
 {
     numbers.fill(0);
