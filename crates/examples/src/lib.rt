@@ -28,6 +28,7 @@ mod tests {
     use method::method::Method;
     use method::multiplying::MultiplyingOut;
     use method::multiplying::MultiplyingOutMethod;
+    use method::quick::quick_check;
     use method::table::ChallengeTable;
     use record::check::check_record;
     use record::fault::RecordFault;
@@ -223,5 +224,53 @@ mod tests {
             }
             Err(_) => Err(Fail::new("refused")),
         }
+    }
+
+    // l = (3, 4), r = (10, 20), G = H = (2, 3), K = 1, folded by 6: Z1 = 405, Z2 = 3760, a = 27, b = 80.
+    fn quick(challenge: u32, a: u32, weight: u32, room: usize) -> Result<bool, MethodFault> {
+        let table = ChallengeTable::empty().with(challenge)?;
+        let z = Pair {
+            a: Clear::base().power(405),
+            b: Clear::base().power(3760),
+        };
+        let mut elements = [9; 2];
+        let mut numbers = [9; 2];
+        let room = if room < 2 { room } else { 2 };
+        quick_check::<Clear>(&table, z, &[2, 3], Clear::base(), a, 80, weight, &mut elements, &mut numbers[0..room])
+    }
+
+    fn quick_passes(a: u32, weight: u32) -> bool {
+        match quick(6, a, weight, 2) {
+            Ok(passes) => passes,
+            Err(_) => false,
+        }
+    }
+
+    fn quick_fault(challenge: u32, a: u32, weight: u32, room: usize) -> Option<MethodFault> {
+        match quick(challenge, a, weight, room) {
+            Ok(_) => None,
+            Err(fault) => Some(fault),
+        }
+    }
+
+    // With a wrong by one, 15 + 80 w is 0 modulo q at one weight alone.
+    #[test]
+    fn quick_check_by_weight() -> Result<(), Fail> {
+        check(quick_passes(27, 1))?;
+        check(quick_passes(27, 1_073_741_788))?;
+        check(!quick_passes(28, 1))?;
+        check(!quick_passes(28, 1_073_741_788))?;
+        check(quick_passes(28, 1_006_632_927))?;
+        check(!quick_passes(28, 1_006_632_926))
+    }
+
+    #[test]
+    fn quick_check_refusals() -> Result<(), Fail> {
+        check_eq(quick_fault(0, 27, 1, 2), Some(MethodFault::NotAChallenge(0)))?;
+        check_eq(quick_fault(6, 27, 0, 1), Some(MethodFault::Room(1)))?;
+        check_eq(quick_fault(6, 1_073_741_789, 0, 2), Some(MethodFault::NotAScalar(0)))?;
+        check_eq(quick_fault(6, 27, 0, 2), Some(MethodFault::NotAChallenge(0)))?;
+        check_eq(quick_fault(6, 27, 1_073_741_789, 2), Some(MethodFault::NotAChallenge(0)))?;
+        check_eq(quick_fault(6, 28, 5, 2), None)
     }
 }
