@@ -236,7 +236,17 @@ mod tests {
         let mut elements = [9; 2];
         let mut numbers = [9; 2];
         let room = if room < 2 { room } else { 2 };
-        quick_check::<Clear>(&table, z, &[2, 3], Clear::base(), a, 80, weight, &mut elements, &mut numbers[0..room])
+        quick_check::<Clear>(
+            &table,
+            z,
+            &[2, 3],
+            Clear::base(),
+            a,
+            80,
+            weight,
+            &mut elements,
+            &mut numbers[0..room],
+        )
     }
 
     fn quick_passes(a: u32, weight: u32) -> bool {
@@ -266,11 +276,23 @@ mod tests {
 
     #[test]
     fn quick_check_refusals() -> Result<(), Fail> {
-        check_eq(quick_fault(0, 27, 1, 2), Some(MethodFault::NotAChallenge(0)))?;
+        check_eq(
+            quick_fault(0, 27, 1, 2),
+            Some(MethodFault::NotAChallenge(0)),
+        )?;
         check_eq(quick_fault(6, 27, 0, 1), Some(MethodFault::Room(1)))?;
-        check_eq(quick_fault(6, 1_073_741_789, 0, 2), Some(MethodFault::NotAScalar(0)))?;
-        check_eq(quick_fault(6, 27, 0, 2), Some(MethodFault::NotAChallenge(0)))?;
-        check_eq(quick_fault(6, 27, 1_073_741_789, 2), Some(MethodFault::NotAChallenge(0)))?;
+        check_eq(
+            quick_fault(6, 1_073_741_789, 0, 2),
+            Some(MethodFault::NotAScalar(0)),
+        )?;
+        check_eq(
+            quick_fault(6, 27, 0, 2),
+            Some(MethodFault::NotAChallenge(0)),
+        )?;
+        check_eq(
+            quick_fault(6, 27, 1_073_741_789, 2),
+            Some(MethodFault::NotAChallenge(0)),
+        )?;
         check_eq(quick_fault(6, 28, 5, 2), None)
     }
 }

@@ -168,9 +168,8 @@ module _ {M E : Type 0} (kind : Meaning M E) (laws : Lawful kind) where
         goes-on = goes-on x key elements numbers (l .number) page x 0 cs ok;
       } in
       let agrees = opened kind x key k (claim-of kind key x) (ok .few) rest follows in
-      let size = ok .gs in
-      (
+      let size = ok .gs in (
         follows,
         ap (λ (n : Ledger M). final kind n rest .page) (opens-up l k _ none (ok .few) room)
-        ∙ play x key elements numbers (l .number) page cs x _ ok agrees refl (omega arith) (subst (λ (n : ℕ). n ≤ elements) (sym size) re) (subst (λ (n : ℕ). n ≤ numbers) (sym size) rn),
+            ∙ play x key elements numbers (l .number) page cs x _ ok agrees refl (omega arith) (subst (λ (n : ℕ). n ≤ elements) (sym size) re) (subst (λ (n : ℕ). n ≤ numbers) (sym size) rn),
       )

@@ -95,7 +95,7 @@ module _ {M E : Type 0} (kind : Meaning M E) where
   draw-good a l s c e (ForDraw m) h =
       good-cond (same-numbers s (numbers-at (l .number) (l .page) (e .rounds)))
       (λ fits. good-cond (eqb c 0 || leb (kind .order) c) (λ bad. record { kept = h })
-        (record { kept = (_, record { runs = refl; sort-fits = fits-after M (e .k) (e .rounds + 1); numbers-fit = same-itself (numbers-at (l .number) (l .page) (e .rounds + 1)) }) }))
+      (record { kept = (_, record { runs = refl; sort-fits = fits-after M (e .k) (e .rounds + 1); numbers-fit = same-itself (numbers-at (l .number) (l .page) (e .rounds + 1)) }) }))
       (record { kept = h })
   draw-good a l s c e ForLast h = record { kept = h }
 

@@ -147,7 +147,7 @@ promised {kind} laws start calls ls is = record {
   ledger = is;
   honest = subst (λ (ys : List Line). Honest-record kind (beside calls ys)) (sym is)
       (λ before after o s p line e x key f.
-        let fair = walk laws x key calls start [] None tt tt before after o s p line e f in
-        record { passes = fair .passes; taken = fair .taken });
+      let fair = walk laws x key calls start [] None tt tt before after o s p line e f in
+      record { passes = fair .passes; taken = fair .taken });
   quick = λ cs ws h z gs k a b we wn. quick-decides kind laws cs ws h z gs k a b we wn;
 }

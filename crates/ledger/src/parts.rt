@@ -1,5 +1,7 @@
 // The plain data of a station.
-use crate::fault::{StationFault, StationFaultDebug, StationFaultPartialEq};
+use crate::fault::StationFault;
+use crate::fault::StationFaultDebug;
+use crate::fault::StationFaultPartialEq;
 
 // The four counts of a page.
 #[derive(Clone, Copy, PartialEq, Eq, Debug)]

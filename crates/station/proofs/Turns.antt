@@ -71,8 +71,8 @@ module _ {M E : Type 0} (kind : Meaning M E) (start : Ledger M) where
       let same : callOf near-u near-v x ≡ callOf u v x = (λ j. callOf (eu j) (ev j) x) in
       let xs = callsOf u v calls in
       let here : take (i + 1) xs ≡ take i xs ++ callOf u v x ∷ [] =
-          take-map (callOf u v) (i + 1) calls ∙ map-more (callOf u v) calls i x within
-          ∙ (λ j. sym (take-map (callOf u v) i calls) j ++ callOf u v (sym read j) ∷ []) in
+      take-map (callOf u v) (i + 1) calls ∙ map-more (callOf u v) calls i x within
+      ∙ (λ j. sym (take-map (callOf u v) i calls) j ++ callOf u v (sym read j) ∷ []) in
       let now : m ≡ step kind l (callOf u v x) .ledger = after ∙ ap (λ (a : Call M E). step kind l a .ledger) same in
       let line : y ≡ line-of kind l (callOf u v x) = (λ j. record {
         answer = (answer ∙ ap (λ (a : Call M E). step kind l a .answer) same) j;
@@ -95,9 +95,9 @@ module _ {M E : Type 0} (kind : Meaning M E) (start : Ledger M) where
       let xs = callsOf u v calls in
       let at : i ≡ least (length calls) m = all ∙ due in
       let lines : take i out ≡ take (length calls) out =
-          ap (λ (k : ℕ). take k out) (at ∙ ap (least (length calls)) (sym long)) ∙ take-least-right out (length calls) in
+      ap (λ (k : ℕ). take k out) (at ∙ ap (least (length calls)) (sym long)) ∙ take-least-right out (length calls) in
       let done-calls : take i xs ≡ take m xs =
-          ap (λ (k : ℕ). take k xs) at ∙ ap (λ (k : ℕ). take (least k m) xs) (sym (length-map calls (callOf u v))) ∙ take-least xs m in
+      ap (λ (k : ℕ). take k xs) at ∙ ap (λ (k : ℕ). take (least k m) xs) (sym (length-map calls (callOf u v))) ∙ take-least xs m in
       promised laws start (take m xs) (take (length calls) out) (sym lines ∙ h .written ∙ ap (run kind start) done-calls)
 
   -- the same promise, for work lists as long

@@ -2,21 +2,31 @@
 mod script;
 mod words;
 
-use crate::script::{Header, call_of, read_header, read_line};
+use crate::script::Header;
+use crate::script::call_of;
+use crate::script::read_header;
+use crate::script::read_line;
 use crate::words::split;
 use kind::bench::fill_bench;
 use kind::clear::Clear;
 use kind::clears::ClearKind;
-use kind::fault::{KindFault, Layer, Refusal};
+use kind::fault::KindFault;
+use kind::fault::Layer;
+use kind::fault::Refusal;
 use kind::kind::Kind;
 use kind::residue::Residue;
 use kind::residues::ResidueKind;
 use ledger::fault::StationFault;
-use ledger::parts::{Answer, Numbers, Page, Sort};
+use ledger::parts::Answer;
+use ledger::parts::Numbers;
+use ledger::parts::Page;
+use ledger::parts::Sort;
 use method::fault::MethodFault;
-use method::halving::{Halving, HalvingMethod};
+use method::halving::Halving;
+use method::halving::HalvingMethod;
 use method::method::Method;
-use method::multiplying::{MultiplyingOut, MultiplyingOutMethod};
+use method::multiplying::MultiplyingOut;
+use method::multiplying::MultiplyingOutMethod;
 use station::call::Call;
 use station::replay::perform;
 use station::state::Station;
@@ -24,6 +34,7 @@ use std::io;
 use std::io::Read;
 
 const LIMIT: usize = 1_048_576;
+
 const LONGEST: usize = 65_535;
 
 // The whole input, or None where it is longer than the limit.
@@ -58,18 +69,34 @@ fn layer_word(layer: Layer) -> &'static str {
 
 fn print_answer(rt: &LibcRuntime, answer: Answer) -> io::Result<()> {
     match answer {
-        Answer::Token(sort, Numbers { station, case, rounds }) => {
+        Answer::Token(
+            sort,
+            Numbers {
+                station,
+                case,
+                rounds,
+            },
+        ) => {
             let word = sort_word(sort);
             print!(rt, "{word} {station} {case} {rounds}")
         }
         Answer::Verdict(true) => print!(rt, "pass"),
         Answer::Verdict(false) => print!(rt, "fail"),
         Answer::Withdrawn => print!(rt, "withdrawn"),
-        Answer::Turned(Page { opened, passed, failed, withdrawn }) => {
-            print!(rt, "turned {opened} {passed} {failed} {withdrawn}")
-        }
+        Answer::Turned(
+            Page {
+                opened,
+                passed,
+                failed,
+                withdrawn,
+            },
+        ) => { print!(rt, "turned {opened} {passed} {failed} {withdrawn}") }
         Answer::Refused(fault) => {
-            let Refusal { number, layer, place } = fault.refusal();
+            let Refusal {
+                number,
+                layer,
+                place,
+            } = fault.refusal();
             let word = layer_word(layer);
             print!(rt, "refused {number} {word} {place}")
         }
@@ -77,7 +104,12 @@ fn print_answer(rt: &LibcRuntime, answer: Answer) -> io::Result<()> {
 }
 
 fn print_page(rt: &LibcRuntime, page: Page) -> io::Result<()> {
-    let Page { opened, passed, failed, withdrawn } = page;
+    let Page {
+        opened,
+        passed,
+        failed,
+        withdrawn,
+    } = page;
     println!(rt, " page {opened} {passed} {failed} {withdrawn}")
 }
 
@@ -130,20 +162,39 @@ fn perform_lines<K: Kind<Entry = u32>, M: Method>(
 }
 
 // A station of this kind and method, for the whole script.
-fn serve<K: Kind<Entry = u32>, M: Method + Drop>(rt: &LibcRuntime, number: u16, method: M, script: &[u8]) -> io::Result<()> {
+fn serve<K: Kind<Entry = u32>, M: Method + Drop>(
+    rt: &LibcRuntime,
+    number: u16,
+    method: M,
+    script: &[u8],
+) -> io::Result<()> {
     let mut bench = vec![in rt.alloc(); 0u32; LONGEST]?;
     fill_bench::<K>(&mut bench);
     let mut elements = vec![in rt.alloc(); 0u32; LONGEST]?;
     let mut numbers = vec![in rt.alloc(); 0u32; LONGEST]?;
     let mut station = Station::<K, M>::new(number, method);
-    let done = perform_lines(rt, &mut station, script, &bench, &mut elements, &mut numbers);
+    let done = perform_lines(
+        rt,
+        &mut station,
+        script,
+        &bench,
+        &mut elements,
+        &mut numbers,
+    );
     station.close();
     done
 }
 
 fn run(rt: &LibcRuntime, text: &[u8]) -> io::Result<()> {
     let (first, behind) = split(text, b'\n');
-    let Some(Header { number, residue, multiplying }) = read_header(first) else {
+    let Some(
+        Header {
+            number,
+            residue,
+            multiplying,
+        },
+    ) = read_header(first)
+    else {
         return println!(rt, "line 1: not a call");
     };
     let Some(script) = behind else {

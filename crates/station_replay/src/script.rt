@@ -1,10 +1,14 @@
 // The lines of a script: what they say, and the calls that they make.
-use crate::words::{Words, is};
-use kind::fault::KindFault;
+use crate::words::Words;
+use crate::words::is;
 use kind::bytes::cut;
+use kind::fault::KindFault;
 use kind::kind::Kind;
-use ledger::parts::{Message, Numbers, Sort};
-use station::call::{Call, LastPair};
+use ledger::parts::Message;
+use ledger::parts::Numbers;
+use ledger::parts::Sort;
+use station::call::Call;
+use station::call::LastPair;
 
 // The first line: the station's number, the kind and the method.
 #[derive(Copy)]
@@ -34,7 +38,11 @@ pub fn read_header(line: &[u8]) -> Option<Header> {
     let residue = either(words.next()?, "clear", "residue")?;
     let multiplying = either(words.next()?, "halving", "multiplying")?;
     words.end()?;
-    Some(Header { number, residue, multiplying })
+    Some(Header {
+        number,
+        residue,
+        multiplying,
+    })
 }
 
 // A call as its line says it, elements and lists by number.
@@ -76,7 +84,14 @@ fn read_token(words: &mut Words) -> Option<(Sort, Numbers)> {
     let station = words.short()?;
     let case = words.number()?;
     let rounds = words.byte()?;
-    Some((sort, Numbers { station, case, rounds }))
+    Some((
+        sort,
+        Numbers {
+            station,
+            case,
+            rounds,
+        },
+    ))
 }
 
 fn read_open(words: &mut Words) -> Option<Said> {
@@ -109,7 +124,18 @@ fn read_last(words: &mut Words) -> Option<Said> {
     let h = words.short()?;
     let elements = words.short()?;
     let numbers = words.short()?;
-    Some(Said::Last(sort, t, Lengths { a, b, g, h, elements, numbers }))
+    Some(Said::Last(
+        sort,
+        t,
+        Lengths {
+            a,
+            b,
+            g,
+            h,
+            elements,
+            numbers,
+        },
+    ))
 }
 
 fn read_withdraw(words: &mut Words) -> Option<Said> {
@@ -149,7 +175,10 @@ fn message_of<K: Kind<Entry = u32>>(m: Message<u32>) -> Result<Message<K>, KindF
 
 // The call that a line makes, with lists from the front of the bench list and the base for K.
 // A number of no element is refused by 11.
-pub fn call_of<'a, K: Kind<Entry = u32>>(said: Said, bench: &'a [u32]) -> Result<Call<'a, K, u32>, KindFault> {
+pub fn call_of<'a, K: Kind<Entry = u32>>(
+    said: Said,
+    bench: &'a [u32],
+) -> Result<Call<'a, K, u32>, KindFault> {
     match said {
         Said::Open(k, z1, z2) => {
             let z1 = K::from_entry(z1)?;
@@ -167,7 +196,19 @@ pub fn call_of<'a, K: Kind<Entry = u32>>(said: Said, bench: &'a [u32]) -> Result
             let key = K::base();
             let elements = p.elements as usize;
             let numbers = p.numbers as usize;
-            Ok(Call::Last(sort, t, LastPair { g, h, key, a: p.a, b: p.b, elements, numbers }))
+            Ok(Call::Last(
+                sort,
+                t,
+                LastPair {
+                    g,
+                    h,
+                    key,
+                    a: p.a,
+                    b: p.b,
+                    elements,
+                    numbers,
+                },
+            ))
         }
         Said::Withdraw(sort, t) => Ok(Call::Withdraw(sort, t)),
         Said::Turn => Ok(Call::Turn),

@@ -11,10 +11,9 @@ pub loop-i-again : need.loop-i-again
 loop-i-again g c =
     let told = c .perform-answer .ensures in
     let out = c .loop-i .out in
-    let i = c .loop-i .i in
-    (
+    let i = c .loop-i .i in (
       turn _ _ _ _ _ _ _ _ _ _ (c .index-calls-i .result) _ _ _ (c .loop-i .kept .elements) (c .loop-i .kept .numbers) (omega arith) (c .index-calls-i .is)
-      (take-more-set out i _ (omega arith)) (told .answer) (c .page .ensures) (told .ledger) (c .loop-i .inv .0),
+          (take-more-set out i _ (omega arith)) (told .answer) (c .page .ensures) (told .ledger) (c .loop-i .inv .0),
       drop-set-lt (c .least-n .result) out i _ (omega arith) ∙ c .loop-i .inv .1,
       told .kept ∙ c .loop-i .inv .2,
     )

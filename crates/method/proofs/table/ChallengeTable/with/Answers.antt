@@ -38,11 +38,16 @@ ghost-result c =
     let eight : length es ≡ 8 = t .ok .0 in
     let here : t .len < length es = omega arith in
     let fine = sym (c .is-outside .ensures) ∙ c .if-is-outside .left in
-    let rest : 8 - t .len - 1 ≡ 8 - (t .len + 1) = omega arith in
-    ((length-set es (t .len) x ∙ eight, omega arith,
-    ap (anyBad outside) (take-more-set es (t .len) x here) ∙ any-push outside (challenges t) x (t .ok .2) fine,
-    drop-set-lt (t .len + 1) es (t .len) x (omega arith) ∙ sym (drop-drop 1 (t .len) es) ∙ ap (drop 1) (t .ok .3)
-    ∙ drop-replicate 1 (8 - t .len) 0 ∙ ap (λ (k : ℕ). replicate k 0) rest), tt)
+    let rest : 8 - t .len - 1 ≡ 8 - (t .len + 1) = omega arith in (
+      (
+        length-set es (t .len) x ∙ eight,
+        omega arith,
+        ap (anyBad outside) (take-more-set es (t .len) x here) ∙ any-push outside (challenges t) x (t .ok .2) fine,
+        drop-set-lt (t .len + 1) es (t .len) x (omega arith) ∙ sym (drop-drop 1 (t .len) es) ∙ ap (drop 1) (t .ok .3)
+            ∙ drop-replicate 1 (8 - t .len) 0 ∙ ap (λ (k : ℕ). replicate k 0) rest,
+      ),
+      tt,
+    )
 
 pub returns : need.returns
 returns c =
