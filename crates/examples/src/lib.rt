@@ -226,12 +226,12 @@ mod tests {
         }
     }
 
-    // l = (3, 4), r = (10, 20), G = H = (2, 3), K = 1, folded by 6: Z1 = 405, Z2 = 3760, a = 27, b = 80.
+    // l = (3, 5), r = (7, 11), G = H = (2, 3), K = 1, folded by 2: Z1 = 91, Z2 = 525, a = 13, b = 25.
     fn quick(challenge: u32, a: u32, weight: u32, room: usize) -> Result<bool, MethodFault> {
         let table = ChallengeTable::empty().with(challenge)?;
         let z = Pair {
-            a: Clear::base().power(405),
-            b: Clear::base().power(3760),
+            a: Clear::base().power(91),
+            b: Clear::base().power(525),
         };
         let mut elements = [9; 2];
         let mut numbers = [9; 2];
@@ -242,7 +242,7 @@ mod tests {
             &[2, 3],
             Clear::base(),
             a,
-            80,
+            25,
             weight,
             &mut elements,
             &mut numbers[0..room],
@@ -250,7 +250,7 @@ mod tests {
     }
 
     fn quick_passes(a: u32, weight: u32) -> bool {
-        match quick(6, a, weight, 2) {
+        match quick(2, a, weight, 2) {
             Ok(passes) => passes,
             Err(_) => false,
         }
@@ -263,36 +263,36 @@ mod tests {
         }
     }
 
-    // With a wrong by one, 15 + 80 w is 0 modulo q at one weight alone.
+    // With a wrong by one, 7 + 25 w is 0 modulo q at one weight alone.
     #[test]
     fn quick_check_by_weight() -> Result<(), Fail> {
-        check(quick_passes(27, 1))?;
-        check(quick_passes(27, 1_073_741_788))?;
-        check(!quick_passes(28, 1))?;
-        check(!quick_passes(28, 1_073_741_788))?;
-        check(quick_passes(28, 1_006_632_927))?;
-        check(!quick_passes(28, 1_006_632_926))
+        check(quick_passes(13, 1))?;
+        check(quick_passes(13, 1_073_741_788))?;
+        check(!quick_passes(14, 1))?;
+        check(!quick_passes(14, 1_073_741_788))?;
+        check(quick_passes(14, 558_345_730))?;
+        check(!quick_passes(14, 558_345_731))
     }
 
     #[test]
     fn quick_check_refusals() -> Result<(), Fail> {
         check_eq(
-            quick_fault(0, 27, 1, 2),
+            quick_fault(0, 13, 1, 2),
             Some(MethodFault::NotAChallenge(0)),
         )?;
-        check_eq(quick_fault(6, 27, 0, 1), Some(MethodFault::Room(1)))?;
+        check_eq(quick_fault(2, 13, 0, 1), Some(MethodFault::Room(1)))?;
         check_eq(
-            quick_fault(6, 1_073_741_789, 0, 2),
+            quick_fault(2, 1_073_741_789, 0, 2),
             Some(MethodFault::NotAScalar(0)),
         )?;
         check_eq(
-            quick_fault(6, 27, 0, 2),
+            quick_fault(2, 13, 0, 2),
             Some(MethodFault::NotAChallenge(0)),
         )?;
         check_eq(
-            quick_fault(6, 27, 1_073_741_789, 2),
+            quick_fault(2, 13, 1_073_741_789, 2),
             Some(MethodFault::NotAChallenge(0)),
         )?;
-        check_eq(quick_fault(6, 28, 5, 2), None)
+        check_eq(quick_fault(2, 14, 5, 2), None)
     }
 }
