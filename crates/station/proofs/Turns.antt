@@ -5,14 +5,22 @@ use mathlib.Core.List.{List, [], _∷_, _++_, map}
 use Prim.Native.Nat.{ℕ, _+_, _≤_, _<_}
 use native.Mathlib.Omega.{arith}
 use lib.Dec.{T, leb, leb→le, nleb→lt}
-use lib.ListN.{length, getD, take, drop}
-use Rattle.std.proofs.shelf.Lists.{take-all, drop-all, length-map, map-more, take-map}
+use lib.ListN.{length, getD, take, drop, replicate}
+use Rattle.std.proofs.shelf.Lists.{take-all, drop-all, length-map, length-append, take-append-drop, map-more, take-map}
+use Rattle.std.specs.declared.result.Result.{Result}
+use Rattle.std.specs.declared.result.Result.the-variants.{Ok, Err}
 use Rattle.kind.specs.Kinds.{Meaning, Lawful}
 use Rattle.ledger.specs.Ledger.{Ledger, Call, step, run, final}
 use Rattle.ledger.specs.Promise.{Promise}
 use Rattle.ledger.specs.declared.parts.Line.{Line}
 use Rattle.ledger.proofs.Walk.{promised}
-use Rattle.station.specs.Calls.{least, callOf, callsOf}
+use Rattle.ledger.specs.declared.parts.Answer.{Answer}
+use Rattle.ledger.specs.declared.parts.Answer.the-variants.{Token, Verdict, Withdrawn, Turned, Refused}
+use Rattle.method.specs.Meaning.{cleared}
+use Rattle.station.specs.Calls.{least, callOf, callsOf, verdict-is, afterVerdict}
+use Rattle.station.specs.View.{last-answer}
+use Rattle.station.specs.declared.tokens.Back.{Back}
+use Rattle.station.specs.declared.tokens.Closing.{Closing}
 use Rattle.station.specs.declared.call.Call.{Call as Data}
 
 -- a property of the lesser of two, by cases
@@ -111,3 +119,32 @@ module _ {M E : Type 0} (kind : Meaning M E) (start : Ledger M) where
   pub alike : (xs : List (Call M E)) (m n : ℕ) (ys zs : List Line) → m ≡ n
       → Promise kind start (take m xs) ys → Promise kind start (take n xs) zs → ys ≡ zs
   alike xs m n ys zs same p q = p .ledger ∙ ap (λ (d : ℕ). run kind start (take d xs)) same ∙ sym (q .ledger)
+
+-- a work list after an answer
+pub by-verdict : {A : Type 0} (a : Answer) → verdict-is a ≡ true → (x : A) (xs : List A) → replicate (length xs) x ≡ afterVerdict a x xs
+by-verdict (Token sort t) h x xs = cc
+by-verdict (Verdict b) h x xs = refl
+by-verdict Withdrawn h x xs = cc
+by-verdict (Turned p) h x xs = cc
+by-verdict (Refused fault) h x xs = cc
+
+pub by-other : {A : Type 0} (a : Answer) → verdict-is a ≡ false → (x : A) (xs : List A) → xs ≡ afterVerdict a x xs
+by-other (Token sort t) h x xs = refl
+by-other (Verdict b) h x xs = cc
+by-other Withdrawn h x xs = refl
+by-other (Turned p) h x xs = refl
+by-other (Refused fault) h x xs = refl
+
+-- a refused last pair alters nothing
+pub untouched : {A : Type 0} (r : Result Bool (Back Closing)) → verdict-is (last-answer r) ≡ false → (n : ℕ) (x : A) (xs : List A) → cleared r n x xs ≡ xs
+untouched (Ok b) h n x xs = cc
+untouched (Err b) h n x xs = refl
+
+-- the first n of a list were lent: as many are there now
+pub part-long : {A : Type 0} (xs ys : List A) (n : ℕ) → length ys ≡ length (take n xs) → length (ys ++ drop n xs) ≡ length xs
+part-long xs ys n same =
+    length-append ys (drop n xs) ∙ ap (λ (k : ℕ). k + length (drop n xs)) same ∙ sym (length-append (take n xs) (drop n xs)) ∙ ap length (take-append-drop n xs)
+
+-- and, unaltered, they are the list
+pub part-same : {A : Type 0} (xs ys : List A) (n : ℕ) → ys ≡ take n xs → ys ++ drop n xs ≡ xs
+part-same xs ys n same = ap (λ zs. zs ++ drop n xs) same ∙ take-append-drop n xs

@@ -6,7 +6,7 @@ ghost use Rattle.kind.specs.Kinds.{unitEntry};
 ghost use Rattle.ledger.specs.Ledger.{fresh, step, message, draw, last-pair};
 ghost use Rattle.ledger.specs.Promise.{Promise};
 ghost use Rattle.ledger.specs.declared.parts.Answer.the-variants.{Refused};
-ghost use Rattle.station.specs.Calls.{least as least-of, callOf, callsOf};
+ghost use Rattle.station.specs.Calls.{least as least-of, callOf, callsOf, verdict-is, afterVerdict, workAfter};
 ghost use Rattle.station.specs.View.{ledgerOf, lastOf, next-answer, opening-answer, message-answer, draw-answer, last-answer, withdrawal-answer, turn-answer, held-sort, held-numbers};
 use kind::entries::clear_entries;
 use kind::kind::Kind;
@@ -93,6 +93,15 @@ fn of_turn(r: Result<Page, StationFault>) -> Answer
     }
 }
 
+fn is_verdict(answer: Answer) -> bool
+    ensures { λ r. ⌜ r ≡ verdict-is answer ⌝ }
+{
+    match answer {
+        Answer::Verdict(_) => true,
+        _ => false,
+    }
+}
+
 fn held(sort: Sort, numbers: Numbers) -> Held
     ensures sort { λ r. ⌜ held-sort r ≡ sort ⌝ }
     ensures numbers { λ r. ⌜ held-numbers r ≡ numbers ⌝ }
@@ -130,12 +139,14 @@ fn perform_last<K: Kind, M: Method>(station: &mut Station<K, M>, sort: Sort, num
     ensures answer { λ r. ⌜ r ≡ step (K·Kind .meaning) (ledgerOf (now (station .entry))) (last-pair sort numbers (lastOf (now (p .entry .g)) (now (p .entry .h)) (p .entry .key) (p .entry .a) (p .entry .b) (least-of (p .entry .elements) (length (now («work_elements» .entry)))) (least-of (p .entry .numbers) (length (now («work_numbers» .entry)))))) .answer ⌝ }
     ensures ledger { λ _. ⌜ ledgerOf (now (station .exit)) ≡ step (K·Kind .meaning) (ledgerOf (now (station .entry))) (last-pair sort numbers (lastOf (now (p .entry .g)) (now (p .entry .h)) (p .entry .key) (p .entry .a) (p .entry .b) (least-of (p .entry .elements) (length (now («work_elements» .entry)))) (least-of (p .entry .numbers) (length (now («work_numbers» .entry)))))) .ledger ⌝ }
     ensures kept { λ _. ⌜ now (station .exit) .method ≡ now (station .entry) .method ⌝ }
+    ensures elements { λ r. ⌜ now («work_elements» .exit) ≡ afterVerdict r (unitEntry (K·Kind .meaning)) (now («work_elements» .entry)) ⌝ }
+    ensures numbers { λ r. ⌜ now («work_numbers» .exit) ≡ afterVerdict r 0 (now («work_numbers» .entry)) ⌝ }
 {
     match sort {
         Sort::Closing => {
             let elements = least(p.elements, work_elements.len());
             let scalars = least(p.numbers, work_numbers.len());
-            of_last(station.last(
+            let answer = of_last(station.last(
                 Closing { numbers },
                 p.a,
                 p.b,
@@ -144,17 +155,24 @@ fn perform_last<K: Kind, M: Method>(station: &mut Station<K, M>, sort: Sort, num
                 p.key,
                 &mut work_elements[0..elements],
                 &mut work_numbers[0..scalars],
-            ))
+            ));
+            if is_verdict(answer) {
+                clear_entries::<K>(work_elements);
+                clear_numbers(work_numbers);
+            }
+            answer
         }
         _ => Answer::Refused(StationFault::NotCurrent),
     }
 }
 
-// One call, as the ledger's step. A token of a sort that the call does not take is refused by 1, as any that is not current.
+// One call, as the ledger's step. A verdict leaves both work lists cleared; any other answer alters none. A token of a sort that the call does not take is refused by 1, as any that is not current.
 pub fn perform<K: Kind, M: Method>(station: &mut Station<K, M>, call: &Call<K, K::Entry>, elements: &mut [K::Entry], numbers: &mut [u32]) -> Answer
     ensures answer { λ r. ⌜ r ≡ step (K·Kind .meaning) (ledgerOf (now (station .entry))) (callOf (length (now (elements .entry))) (length (now (numbers .entry))) (now (call .entry))) .answer ⌝ }
     ensures ledger { λ _. ⌜ ledgerOf (now (station .exit)) ≡ step (K·Kind .meaning) (ledgerOf (now (station .entry))) (callOf (length (now (elements .entry))) (length (now (numbers .entry))) (now (call .entry))) .ledger ⌝ }
     ensures kept { λ _. ⌜ now (station .exit) .method ≡ now (station .entry) .method ⌝ }
+    ensures elements { λ r. ⌜ now (elements .exit) ≡ workAfter (now (call .entry)) r (unitEntry (K·Kind .meaning)) (now (elements .entry)) ⌝ }
+    ensures numbers { λ r. ⌜ now (numbers .exit) ≡ workAfter (now (call .entry)) r 0 (now (numbers .entry)) ⌝ }
 {
     match call {
         Call::Open(k, z1, z2) => of_opening(station.open(*k, *z1, *z2)),

@@ -1,7 +1,8 @@
 use mathlib.Core.Path.{sym, ap, _∙_}
 use lib.ListN.{length}
 use Rattle.ledger.specs.Ledger.{step}
-use Rattle.station.specs.Calls.{callOf}
+use Rattle.kind.specs.Kinds.{unitEntry}
+use Rattle.station.specs.Calls.{callOf, workAfter}
 use Rattle.station.specs.View.{ledgerOf}
 use Rattle.station.proofs.replay.perform.Needs as need
 
@@ -15,4 +16,6 @@ returns-in-Message g c =
       answer = told .answer ∙ ap (λ x. step (g .K·Kind .meaning) l (call x) .answer) (sym (c .in-Message .is));
       ledger = told .ledger ∙ ap (λ x. step (g .K·Kind .meaning) l (call x) .ledger) (sym (c .in-Message .is));
       kept = told .kept;
+      elements = ap (λ x. workAfter x (c .perform-message .result) (unitEntry (g .K·Kind .meaning)) (c .args .elements .now)) (sym (c .in-Message .is));
+      numbers = ap (λ x. workAfter x (c .perform-message .result) 0 (c .args .numbers .now)) (sym (c .in-Message .is));
     }
