@@ -1,26 +1,9 @@
 -- Claims are kept by folding, and so the last pair passes. Assumes nothing.
-use Rattle.std.proofs.Common.{◌≡◌, ℕ, zero, suc, ◌+◌, ◌*◌, ◌/◌, ◌%◌, ◌^◌, List, [], ◌∷◌, length, get_or, take, drop, sym, refl, ap, ◌∙◌, subst, ap₂, add-zero, add_assoc, pow-suc, zero-add, arith, length-drop, length-take}
+use Rattle.std.proofs.Common.{◌≡◌, ℕ, zero, suc, ◌+◌, ◌*◌, ◌/◌, ◌^◌, List, [], ◌∷◌, length, get_or, take, drop, sym, refl, ap, ◌∙◌, subst, ap₂, add-zero, add_assoc, pow-suc, zero-add, arith, length-drop, length-take}
 use lib.Lanes.{zip2}
 use lib.LanesLaws.{length-zip2}
 use Rattle.protocol.specs.Group.{Group, power, Laws, product}
-use Rattle.protocol.specs.Halving.{
-  dot,
-  inner,
-  Standing,
-  Sized,
-  TrueClaim,
-  fold_commitment,
-  fold_g,
-  fold_h,
-  fold_l,
-  fold_r,
-  first_half,
-  last_half,
-  claim2,
-  round,
-  rounds,
-  LastPasses,
-}
+use Rattle.protocol.specs.Halving.{dot, Standing, Sized, TrueClaim, fold_commitment, fold_g, fold_h, fold_l, fold_r, first_half, last_half, claim2, round, rounds, LastPasses}
 use Rattle.protocol.proofs.Rows.{Rows, rows}
 use Rattle.protocol.proofs.Powers.{unit_right, left_comm, pow-add, pow-op, pow-mod}
 use Rattle.protocol.proofs.Folding.{folded-g, folded-h, folded-dot}

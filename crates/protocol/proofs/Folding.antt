@@ -1,10 +1,10 @@
 -- What one folding does to a product of powers. Assumes nothing.
-use Rattle.std.proofs.Common.{◌≡◌, ℕ, zero, suc, ◌+◌, ◌*◌, ◌/◌, ◌%◌, List, [], ◌∷◌, length, take, drop, sym, refl, ap, ◌∙◌, mul_assoc, mul_comm, add-mul, mul-add, mul_left_comm, arith, length-drop, length-take}
+use Rattle.std.proofs.Common.{◌≡◌, ℕ, ◌+◌, ◌*◌, ◌%◌, List, sym, ap, ◌∙◌, mul_assoc, mul_comm, add-mul, mul-add, mul_left_comm}
 use lib.Lanes.{zip2}
 use Rattle.protocol.specs.Group.{Group, power, Laws, product}
 use Rattle.protocol.specs.Halving.{dot, fold_commitment}
 use Rattle.protocol.proofs.Rows.{Rows, none, more}
-use Rattle.protocol.proofs.Powers.{pow-zero, pow-suc, unit_right, left_comm, pow-add, pow-unit, pow-op, pow-pow, pow-mod}
+use Rattle.protocol.proofs.Powers.{pow-zero, left_comm, pow-add, pow-unit, pow-op, pow-pow, pow-mod}
 
 module _ {E : Type 0} {q : ℕ} {o : Group E} (laws : Laws q o) (c : ℕ) where
   folded-unit : fold_commitment q o c o.unit (o.join o.unit o.unit) o.unit ≡ o.unit

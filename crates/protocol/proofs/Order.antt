@@ -1,5 +1,5 @@
 -- Elements of prime order: roots of the unit, inverses, and two equations out of one at two weights. Assumes nothing.
-use Rattle.std.proofs.Common.{◌≡◌, ℕ, zero, suc, ◌+◌, ◌-◌, ◌*◌, ◌/◌, ◌%◌, ◌<◌, ◌≤◌, ◌≢◌, sym, refl, ap, ◌∙◌, subst, ap₂, inl, inr, mod-lt, mul_comm, arith}
+use Rattle.std.proofs.Common.{◌≡◌, ℕ, zero, suc, ◌+◌, ◌-◌, ◌*◌, ◌/◌, ◌%◌, ◌<◌, ◌≤◌, ◌≢◌, sym, ap, ◌∙◌, ap₂, inl, inr, mod-lt, mul_comm, arith}
 use native.Mathlib.Nat.{div-add-mod}
 use native.Mathlib.Decide.{dec_lt}
 use Rattle.protocol.specs.Group.{Group, power, Laws, Prime}

@@ -1,12 +1,12 @@
 -- The quick check says what the two equations of the last pair say. Assumes nothing.
-use Rattle.std.proofs.Common.{◌≡◌, ℕ, ◌+◌, ◌*◌, ◌%◌, ◌^◌, ◌<◌, List, [], ◌∷◌, reverse, length, get_or, sym, refl, ap, ◌∙◌, subst, ap₂, mul_assoc, mul_comm, mul_left_comm, arith}
+use Rattle.std.proofs.Common.{◌≡◌, ℕ, ◌+◌, ◌*◌, ◌%◌, ◌^◌, ◌<◌, List, length, get_or, sym, refl, ap, ◌∙◌, subst, ap₂, mul_assoc, mul_comm, arith}
 use native.Mathlib.Decide.{dec_lt}
 use lib.ListN.{length-reverse}
 use lib.Lanes.{zip2}
 use Rattle.protocol.specs.Group.{Group, power, Laws, product}
-use Rattle.protocol.specs.Halving.{Passes, FoldedPasses, folds_g, folds_h}
+use Rattle.protocol.specs.Halving.{Passes, FoldedPasses}
 use Rattle.protocol.specs.Weights.{HWeights, g_weights}
-use Rattle.protocol.specs.Quick.{Quick, Decides}
+use Rattle.protocol.specs.Quick.{Decides}
 use Rattle.protocol.proofs.Rows.{Rows, none, more, rows}
 use Rattle.protocol.proofs.Powers.{left_comm, pow-add, pow-unit, pow-op, pow-pow, pow-mod}
 use Rattle.protocol.proofs.Weights.{multiplies_out}

@@ -1,5 +1,5 @@
 -- Halving a row round by round is multiplying it out by weights. Assumes nothing.
-use Rattle.std.proofs.Common.{◌≡◌, ℕ, zero, suc, ◌+◌, ◌-◌, ◌*◌, ◌/◌, ◌%◌, ◌^◌, ◌<◌, ◌≤◌, List, [], ◌∷◌, ◌++◌, map, reverse, length, get_or, take, drop, sym, refl, ap, ◌∙◌, subst, ap₂, mul_comm, pow-suc, arith, length-append, length-drop, take-append-drop, length-take, pow_pos, pow_mono}
+use Rattle.std.proofs.Common.{◌≡◌, ℕ, suc, ◌+◌, ◌-◌, ◌*◌, ◌/◌, ◌%◌, ◌^◌, ◌<◌, ◌≤◌, List, [], ◌∷◌, ◌++◌, map, reverse, length, get_or, take, drop, sym, refl, ap, ◌∙◌, subst, ap₂, mul_comm, pow-suc, arith, length-append, length-drop, take-append-drop, length-take, pow_pos, pow_mono}
 use mathlib.Core.List.{reverse-append, reverse-cons, map-append}
 use native.Mathlib.Decide.{dec_lt}
 use lib.ListN.{length-map, length-reverse}

@@ -1,6 +1,8 @@
 // The theorems of the halving argument, for every commutative group of prime order.
 //
 // Each function here does nothing but carry one theorem in its contract, so that the crate is proved only with the theorem.
+#![tactic(auto)]
+
 ghost use Rattle.protocol.specs.Halving.{FoldingKeepsClaims, RulesPass};
 ghost use Rattle.protocol.specs.Quick.{QuickDecides};
 ghost use Rattle.protocol.specs.Weights.{MultipliesOut, WeightsExist};
