@@ -1,5 +1,5 @@
 -- The turns of a product of powers. Assumes nothing.
-use Rattle.std.proofs.Common.{◌≡◌, ℕ, ◌+◌, ◌<◌, ◌≤◌, List, [], ◌∷◌, length, get_or, drop, sym, refl, ap, ◌∙◌, ap₂}
+use Rattle.std.proofs.Common.{◌≡◌, ℕ, ◌+◌, ◌<◌, ◌≤◌, List, length, get_or, drop, sym, ap, ◌∙◌, ap₂}
 use Rattle.std.proofs.lemmas.List.{drop_more, drop_all}
 use Rattle.protocol.specs.Group.{Group, Laws, power, product}
 use Rattle.protocol.proofs.Powers.{unit_right}

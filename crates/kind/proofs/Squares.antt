@@ -1,5 +1,5 @@
 -- The turns of a power by squares: modulo a modulus, and in a group. Assumes nothing.
-use Rattle.std.proofs.Common.{◌≡◌, ℕ, zero, suc, ◌+◌, ◌*◌, ◌/◌, ◌%◌, ◌<◌, sym, refl, ap, ◌∙◌, ap₂, mod-lt, mod-eq_of_lt, mul_assoc, one-mul, mul-one, arith}
+use Rattle.std.proofs.Common.{◌≡◌, ℕ, suc, ◌+◌, ◌*◌, ◌/◌, ◌%◌, ◌<◌, sym, ap, ◌∙◌, ap₂, mod-lt, mod-eq_of_lt, mul_assoc, one-mul, mul-one, arith}
 use Rattle.protocol.specs.Group.{Group, Laws, power}
 use Rattle.protocol.proofs.Powers.{pow-zero, unit_right, halve_even, halve_odd}
 use Rattle.kind.specs.Modular.{pow_mod, pow_mod_below, pow_mod_zero, pow_mod_suc, pow_mod_mul, pow_mod_add, mod_mul_left, mod_mul_right}

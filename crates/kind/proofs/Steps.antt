@@ -1,5 +1,5 @@
 -- Steps that can be refused: what is known where they are, and where they are not. Assumes nothing.
-use Rattle.std.proofs.Common.{◌≡◌, ℕ, Bool, true, false, List, [], ◌∷◌, ◌++◌, Ok, Err, Result, sym, refl, ap, ◌∙◌, arith}
+use Rattle.std.proofs.Common.{◌≡◌, ℕ, Bool, true, false, List, [], ◌∷◌, ◌++◌, Ok, Err, Result, refl, ap, ◌∙◌, arith}
 use Rattle.kind.specs.Faults.{and_then, first_of, unless, wrapped}
 
 pub stopped : {T U F : Type 0} (r : Result T F) (f : T → Result U F) (e : F) → r ≡ Err e → and_then r f ≡ Err e

@@ -1,5 +1,5 @@
 -- The numbers below the order, under addition. Assumes nothing.
-use Rattle.std.specs.Prelude.{◌≡◌, ℕ, zero, suc, ◌+◌, ◌*◌, ◌%◌, ◌<◌, Bool, Some, None, Option, ◌==◌, refl}
+use Rattle.std.specs.Prelude.{◌≡◌, ℕ, zero, suc, ◌+◌, ◌*◌, ◌%◌, ◌<◌, Some, None, Option, ◌==◌, refl}
 use Rattle.std.proofs.Common.{sym, ap, subst, ◌∙◌, mod-lt, mod-eq_of_lt, zero-mul, suc-mul, add_comm, add_assoc, zero-add, arith, lit<, lit≤, eqb-true, eq-eqb}
 use Rattle.std.proofs.Math.Nat.{mod-add-mod, add-mod-mod, mul-mod_right}
 use Rattle.std.proofs.Math.Bridge.{le_prop}

@@ -1,5 +1,5 @@
 -- Steps that can be refused, and what each of the kind's faults tells. Assumes nothing.
-use Rattle.std.specs.Prelude.{ℕ, ◌+◌, Bool, true, false, cond, List, [], ◌∷◌, Ok, Err, Result}
+use Rattle.std.specs.Prelude.{ℕ, ◌+◌, Bool, cond, List, [], ◌∷◌, Ok, Err, Result}
 use Rattle.kind.specs.declared.fault.KindFault.{KindFault}
 use Rattle.kind.specs.declared.fault.KindFault.TheVariants.{Length, NotAnElement, NotAScalar}
 use Rattle.kind.specs.declared.fault.Layer.{Layer}

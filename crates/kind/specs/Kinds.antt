@@ -1,5 +1,5 @@
 -- What a kind is: a commutative group of prime order, with a base, sameness, and plain entries for its elements. Assumes nothing.
-use Rattle.std.specs.Prelude.{◌≡◌, ℕ, ◌^◌, ◌≤◌, Bool, true, List, map, Some, None, Option}
+use Rattle.std.specs.Prelude.{◌≡◌, ℕ, ◌^◌, ◌≤◌, Bool, true, List, map, Some, Option}
 use Rattle.std.specs.Option.{unwrap_or}
 use Rattle.protocol.specs.Group.{Group, Laws}
 

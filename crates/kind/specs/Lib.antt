@@ -12,3 +12,4 @@ pub mod Bytes
 pub mod Bench
 pub mod Sides
 pub mod Writes
+pub mod Written

@@ -1,8 +1,8 @@
 -- Products and powers modulo any modulus. Assumes nothing.
-use Rattle.std.specs.Prelude.{◌≡◌, ℕ, zero, suc, ◌+◌, ◌*◌, ◌/◌, ◌%◌, ◌^◌, ◌<◌, ◌≤◌, refl}
+use Rattle.std.specs.Prelude.{◌≡◌, ℕ, zero, suc, ◌+◌, ◌*◌, ◌/◌, ◌%◌, ◌^◌, ◌<◌, ◌≤◌}
 use Rattle.std.proofs.Math.Path.{sym, ap}
-use Rattle.std.proofs.Common.{subst, ◌∙◌, mod-eq_of_lt, add-mul, zero-mul, mul_assoc, mul_comm, pow-suc, mul-one, zero-add, one-add, arith, pow-add}
-use Rattle.std.proofs.Math.Nat.{mod-lt, mod-mod, mod-add-div, add-mul-mod_self_left, mul-mul-mul_comm, pow-zero, pow-succ', two-pow-succ}
+use Rattle.std.proofs.Common.{◌∙◌, mod-eq_of_lt, add-mul, zero-mul, mul_assoc, mul_comm, pow-suc, mul-one, zero-add, one-add, arith, pow-add}
+use Rattle.std.proofs.Math.Nat.{mod-lt, mod-add-div, add-mul-mod_self_left, mul-mul-mul_comm, pow-zero, pow-succ', two-pow-succ}
 
 -- v ^ e modulo m. Shut: v and e may be numerals of 30 bits
 unfoldable pub pow_mod : ℕ → ℕ → ℕ → ℕ

@@ -1,7 +1,7 @@
 -- Pairs of elements of a kind are a kind. Assumes nothing.
-use Rattle.std.specs.Prelude.{◌≡◌, ℕ, zero, suc, Bool, true, false, ◌&&◌, Some, None, Option, refl}
-use Rattle.std.proofs.Common.{sym, ap, subst, ◌∙◌}
-use Rattle.protocol.specs.Group.{Group, Laws, power}
+use Rattle.std.specs.Prelude.{◌≡◌, ℕ, zero, suc, ◌&&◌, Some, None, Option, refl}
+use Rattle.std.proofs.Common.{sym, ap, ◌∙◌}
+use Rattle.protocol.specs.Group.{Group, power}
 use Rattle.protocol.proofs.Powers.{pow-zero, pow-suc}
 use Rattle.kind.specs.Both.{both_true}
 use Rattle.kind.specs.Kinds.{Meaning, Lawful}

@@ -1,5 +1,5 @@
 -- The product call: when it is refused, and what it answers. Assumes nothing.
-use Rattle.std.specs.Prelude.{ℕ, Bool, true, false, not, List, [], ◌∷◌, length, is_some, Ok, Err, Result, ◌==◌, nat_le}
+use Rattle.std.specs.Prelude.{ℕ, not, List, [], ◌∷◌, length, is_some, Ok, Result, ◌==◌, nat_le}
 use Rattle.protocol.specs.Group.{product}
 use Rattle.kind.specs.Faults.{and_then, first_of, unless, first_bad}
 use Rattle.kind.specs.Kinds.{Meaning, elements}

@@ -1,10 +1,8 @@
 -- The residues of the subgroup of order q, under multiplication modulo p. Assumes nothing.
-use Rattle.std.specs.Prelude.{◌≡◌, ℕ, zero, suc, ◌+◌, ◌*◌, ◌%◌, ◌<◌, ◌≤◌, Bool, Some, None, Option, ◌==◌, refl}
+use Rattle.std.specs.Prelude.{◌≡◌, ℕ, zero, suc, ◌*◌, ◌%◌, Some, None, Option, ◌==◌, refl}
 use Rattle.std.proofs.Common.{sym, ap, subst, ◌∙◌, mod-lt, mod-eq_of_lt, mul_assoc, mul_comm, one-mul, arith, lit<, lit≤, eqb-true, eq-eqb}
-use Rattle.std.proofs.Math.Nat.{ℕ_set}
-use Rattle.std.proofs.Math.Bridge.{le_prop}
+use denote.Struct.Props.{props}
 use Rattle.std.proofs.Math.Decide.{dec_lt, dec_le, ℕ_discrete}
-use denote.Struct.Props.{three_prop}
 use Rattle.protocol.specs.Group.{Group, power}
 use Rattle.protocol.proofs.Powers.{pow-zero, pow-suc}
 use Rattle.kind.specs.Constants.{order, modulus, InSubgroup}
@@ -20,7 +18,7 @@ residue n h = record { v = n; ok = h }
 pub residue_path : (a b : Residue) → a.v ≡ b.v → a ≡ b
 residue_path a b e =
     subst (λ (n : ℕ). (h : InSubgroup n) → a ≡ residue n h) e
-    (λ h. ap (residue a.v) (three_prop le_prop le_prop (ℕ_set (pow_mod modulus a.v order) 1) a.ok h)) b.ok
+    (λ h. let alike : IsProp (InSubgroup a.v) = hlevel props in ap (residue a.v) (alike a.ok h)) b.ok
 
 -- by computing: 1 ^ q and 4 ^ q modulo p are 1
 abbrev pub residue_unit : Residue

@@ -1,4 +1,6 @@
 // Kinds of element: commutative groups of prime order whose elements have plain entries in lists.
+#![tactic(auto)]
+
 pub mod bench;
 pub mod bytes;
 pub mod clear;

@@ -1,12 +1,9 @@
 // A kind whose elements are written as bytes.
-ghost use Rattle.std.specs.Prelude.{◌≡◌, ◌-◌, ◌++◌, replicate, refl};
+ghost use Rattle.std.specs.Prelude.{◌≡◌, ◌-◌, ◌++◌, replicate};
 ghost use Rattle.std.specs.Option.{ok_or};
 ghost use Rattle.kind.specs.Bytes.{bytes_of, Writing, WellWritten, clear_writing, residue_writing};
 ghost use Rattle.kind.specs.declared.fault.KindFault.TheVariants.{NotAnElement};
-ghost use Rattle.std.proofs.Common.{arith, lit≤};
-ghost use Rattle.kind.specs.Clears.{clear_of, clear_of_some, clear_of_only, clear_number};
-ghost use Rattle.kind.specs.Writes.{reads_again, reads_only};
-ghost use Rattle.kind.specs.Residues.{residue_of, residue_of_some, residue_of_only, residue_number};
+ghost use Rattle.kind.specs.Written.{clear_written, residue_written};
 
 use crate::bytes::number_in;
 use crate::clear::Clear;
@@ -44,13 +41,7 @@ fn four_bytes(n: u32) -> [u8; 64]
 impl WrittenKind for Clear {
     ghost writing = { clear_writing };
 
-    ghost writes = { record {
-      some = lit≤ tt;
-      few = lit≤ tt;
-      filled = λ x. refl;
-      again = reads-again clearOf clearNumber (λ x. omega arith) clearOf-some clearOf-only;
-      only = reads_only clearOf clearNumber (λ x. omega arith) clearOf-some clearOf-only;
-    } };
+    ghost writes = { clear_written };
 
     fn width() -> usize {
         4
@@ -71,13 +62,7 @@ impl WrittenKind for Clear {
 impl WrittenKind for Residue {
     ghost writing = { residue_writing };
 
-    ghost writes = { record {
-      some = lit≤ tt;
-      few = lit≤ tt;
-      filled = λ x. refl;
-      again = reads-again residueOf residueNumber (λ x. omega arith) residueOf-some residueOf-only;
-      only = reads_only residueOf residueNumber (λ x. omega arith) residueOf-some residueOf-only;
-    } };
+    ghost writes = { residue_written };
 
     fn width() -> usize {
         4

@@ -7,6 +7,6 @@ returns-else-n-xs g c =
     let xs = c.args.xs.now in
     let n = c.args.n in
     record {
-      front = c.split-at-else-n-xs.ensures.front ∙ take_all (length xs) xs (omega arith) ∙ sym (take_all n xs c.if-n-xs.false);
-      back = c.split-at-else-n-xs.ensures.back ∙ drop_all (length xs) xs (omega arith) ∙ sym (drop_all n xs c.if-n-xs.false);
+      front = c.split_at-else-n-xs.ensures.front ∙ take_all (length xs) xs (omega arith) ∙ sym (take_all n xs c.if-n-xs.false);
+      back = c.split_at-else-n-xs.ensures.back ∙ drop_all (length xs) xs (omega arith) ∙ sym (drop_all n xs c.if-n-xs.false);
     }

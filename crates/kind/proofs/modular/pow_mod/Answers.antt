@@ -10,10 +10,10 @@ pub loop-n-preserved : goal.loop-n-preserved
 loop-n-preserved c =
     elim c.if-n-eq1.branch [
       | then-n-eq1 w ↦
-          turn_odd c.args.m c.requires.above _ _ c.loop-n.n _ _ _ (w.acc-is ∙ w.mul-mod-acc.ensures) c.mul-mod-b.ensures w.if-n-eq1.true c.loop-n.invariant
+          turn_odd c.args.m c.requires.above _ _ c.loop-n.n _ _ _ (w.acc-is ∙ w.mul_mod-acc.ensures) c.mul_mod-b.ensures w.if-n-eq1.true c.loop-n.invariant
       | else-n-eq1 w ↦
           let e : c.loop-n.n % 2 ≡ 0 = omega (arith, w.if-n-eq1.false) in
-          turn_even c.args.m c.requires.above _ _ c.loop-n.n _ _ _ w.acc-is c.mul-mod-b.ensures e c.loop-n.invariant
+          turn_even c.args.m c.requires.above _ _ c.loop-n.n _ _ _ w.acc-is c.mul_mod-b.ensures e c.loop-n.invariant
     ]
 
 pub returns : goal.returns

@@ -1,4 +1,4 @@
-use Rattle.std.proofs.Common.{◌<◌, ◌≤◌, leb, get_or, refl, arith, le-leb}
+use Rattle.std.proofs.Common.{◌<◌, ◌≤◌, leb, get_or, arith, le-leb}
 use borrow.Author.Tests.{lt-leb}
 use Rattle.kind.specs.declared.fault.KindFault.TheVariants.{NotAScalar}
 use Rattle.kind.proofs.Scans.{looked_more, looked_here, looked_all}

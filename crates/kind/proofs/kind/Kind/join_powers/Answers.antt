@@ -1,4 +1,4 @@
-use Rattle.std.proofs.Common.{◌≡◌, length, sym, refl, ap, ◌∙◌, arith}
+use Rattle.std.proofs.Common.{refl, ap, ◌∙◌, arith}
 use Rattle.protocol.specs.Group.{product}
 use Rattle.kind.specs.Kinds.{elements}
 use Rattle.kind.proofs.Listed.{length-elements}
@@ -17,8 +17,8 @@ loop-i-preserved g c =
     let m = length-elements s c.args.entries.now in
     let long = c.requires.long in
     join_more s.group g.Self.Kind.laws.group (elements s c.args.entries.now) c.args.scalars.now c.loop-i.i
-    c.element-at-x.result s.group.unit c.loop-i.total c.power.result c.join-total.result _
-    (omega arith) (omega arith) c.element-at-x.ensures refl c.power.ensures c.join-total.ensures
+    c.element_at-x.result s.group.unit c.loop-i.total c.power.result c.join-total.result _
+    (omega arith) (omega arith) c.element_at-x.ensures refl c.power.ensures c.join-total.ensures
     ∙ c.loop-i.invariant
 
 pub returns : goal.returns

@@ -1,4 +1,4 @@
-use Rattle.std.proofs.Common.{◌≡◌, ◌%◌, sym, ap, ◌∙◌, arith}
+use Rattle.std.proofs.Common.{◌≡◌, ◌%◌, ap, ◌∙◌, arith}
 use Rattle.protocol.specs.Group.{power}
 use Rattle.kind.proofs.Squares.{power-even, power-odd, power-end}
 use Rattle.kind.proofs.kind.Kind.power.Goals as goal

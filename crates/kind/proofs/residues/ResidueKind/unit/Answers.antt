@@ -2,8 +2,8 @@ use Rattle.std.proofs.Common.{refl}
 use Rattle.kind.specs.Residues.{residue_path, residue_unit}
 use Rattle.kind.proofs.residues.ResidueKind.unit.Goals as goal
 
-pub invariant-of-result : goal.invariant-of-result
-invariant-of-result c = (residue_unit.ok, tt)
+pub invariant_of-result : goal.invariant_of-result
+invariant_of-result c = record { ok = residue_unit.ok }
 
 pub returns : goal.returns
 returns c = residue_path _ _ refl
