@@ -1,7 +1,7 @@
 -- The turns of the folding loops. Assumes nothing.
-use Rattle.std.proofs.Common.{◌≡◌, ℕ, zero, suc, ◌+◌, ◌-◌, ◌/◌, ◌%◌, ◌^◌, ◌<◌, ◌≤◌, List, [], ◌∷◌, ◌++◌, map, length, get_or, take, drop, set, sym, refl, ap, ◌∙◌, ap₂, append_assoc, arith, length-drop, length-take}
+use Rattle.std.proofs.Common.{◌≡◌, ℕ, suc, ◌+◌, ◌-◌, ◌/◌, ◌%◌, ◌^◌, ◌<◌, ◌≤◌, List, [], ◌∷◌, ◌++◌, length, get_or, take, drop, set, sym, ap, ◌∙◌, ap₂, append_assoc, arith, length-drop, length-take}
 use native.Mathlib.Nat.{two-pow-succ}
-use Rattle.std.proofs.lemmas.List.{take_more, drop_more, set_at, get_or-take, get_or-drop, get_or_default, get_or-append_right, length-take-le, get_or-map, length-map}
+use Rattle.std.proofs.lemmas.List.{take_more, drop_more, set_at, get_or-take, get_or-drop, get_or-append_right, length-take-le, get_or-map, length-map}
 use Rattle.std.proofs.lemmas.Simd.{length-zip2, get_or-zip2}
 use Rattle.protocol.specs.Halving.{first_half, last_half}
 use Rattle.kind.specs.Kinds.{Meaning}

@@ -1,21 +1,19 @@
 -- The quick check decides what the methods do. Assumes nothing.
-use Rattle.std.proofs.Common.{◌≡◌, ℕ, ◌*◌, ◌%◌, ◌^◌, ◌<◌, ◌≤◌, Bool, true, false, cond, ◌&&◌, eqb, ltb, leb, List, [], ◌∷◌, ◌++◌, length, Ok, Err, Result, sym, refl, ap, ◌∙◌, subst, ap₂, arith, ltb-true, eqb-true, leb-true}
+use Rattle.std.proofs.Common.{◌≡◌, ℕ, ◌%◌, ◌^◌, ◌<◌, ◌≤◌, true, false, cond, ◌&&◌, eqb, ltb, leb, List, ◌++◌, length, Ok, Err, Result, sym, refl, ap, ◌∙◌, ap₂, arith, ltb-true, eqb-true, leb-true}
 use Rattle.std.proofs.lemmas.List.{length-map}
-use Rattle.protocol.specs.Group.{power, product}
 use Rattle.protocol.specs.Halving.{FoldedPasses}
-use Rattle.protocol.specs.Quick.{Quick, Decides, quick_scalars}
+use Rattle.protocol.specs.Quick.{Quick, Decides}
 use Rattle.protocol.specs.Weights.{HWeights}
 use Rattle.protocol.proofs.Quick.{decides}
 use Rattle.kind.specs.Both.{both_true}
-use Rattle.kind.specs.Faults.{and_then, first_of, unless, wrapped}
+use Rattle.kind.specs.Faults.{and_then, first_of, wrapped}
 use Rattle.kind.specs.Kinds.{Meaning, Lawful, elements, AllElements}
 use Rattle.kind.specs.Products.{entries_refusal}
 use Rattle.kind.specs.declared.pair.Pair.{Pair}
 use Rattle.kind.proofs.Listed.{length-elements, all_checked}
 use Rattle.kind.proofs.Steps.{both-went, held, unwrapped, AllPass, none, more, all_pass}
-use Rattle.method.specs.Meaning.{size_refusal, length_refusal, room_refusal, scalar_refusal, length_refusals, content_refusals, reduced, method_refused, method_answer, verdict_of}
-use Rattle.method.specs.QuickCheck.{quick_lengths, quick_content, weight_refusal, quick_refused, quick_passes, quick_answer, QuickDecides}
-use Rattle.method.specs.declared.fault.MethodFault.{MethodFault}
+use Rattle.method.specs.Meaning.{size_refusal, length_refusal, room_refusal, scalar_refusal, length_refusals, content_refusals, reduced, method_refused, verdict_of}
+use Rattle.method.specs.QuickCheck.{quick_lengths, quick_content, weight_refusal, quick_refused, quick_passes, QuickDecides}
 use Rattle.method.specs.declared.fault.MethodFault.TheVariants.{Length, Room, Kind, NotAChallenge}
 
 no_fault : {T F : Type 0} (r : Result Unit F) (v u : T) → and_then r (λ _. Ok v) ≡ Ok u → (r ≡ Ok tt) × (v ≡ u)

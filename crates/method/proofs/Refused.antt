@@ -1,7 +1,7 @@
 -- What is known where nothing is refused. Assumes nothing.
-use Rattle.std.proofs.Common.{◌≡◌, ℕ, ◌-◌, ◌^◌, ◌<◌, ◌≤◌, Bool, true, false, cond, eqb, leb, List, [], ◌∷◌, ◌++◌, length, take, drop, replicate, Ok, Err, Result, sym, refl, ap, ◌∙◌, subst, ap₂, arith, eqb-true, leb-true}
+use Rattle.std.proofs.Common.{◌≡◌, ℕ, ◌-◌, ◌≤◌, eqb, leb, List, ◌++◌, length, take, drop, replicate, Ok, ap, ◌∙◌, ap₂, arith, eqb-true, leb-true}
 use Rattle.std.proofs.lemmas.List.{length-take-le}
-use Rattle.kind.specs.Faults.{and_then, first_of, unless, wrapped}
+use Rattle.kind.specs.Faults.{first_of, wrapped}
 use Rattle.kind.specs.Kinds.{Meaning, Lawful, AllElements}
 use Rattle.kind.specs.Products.{entries_refusal}
 use Rattle.kind.proofs.Listed.{all_checked}

@@ -1,5 +1,5 @@
 -- The challenges of a table. Assumes nothing.
-use Rattle.std.proofs.Common.{◌≡◌, ℕ, suc, ◌+◌, ◌<◌, ◌≤◌, Bool, true, false, cond, ◌||◌, leb, List, [], ◌∷◌, ◌++◌, length, take, Ok, Err, sym, refl, ap, ◌∙◌, ap₂, add-zero, arith, length-append, le-leb}
+use Rattle.std.proofs.Common.{◌≡◌, ℕ, suc, ◌+◌, ◌<◌, Bool, true, false, cond, ◌||◌, leb, List, [], ◌∷◌, ◌++◌, length, Ok, Err, sym, refl, ap, ◌∙◌, ap₂, add-zero, arith, length-append, le-leb}
 use Rattle.std.proofs.lemmas.List.{length-take-le}
 use Rattle.kind.specs.Faults.{first_bad}
 use Rattle.kind.proofs.Scans.{none_bad}

@@ -1,5 +1,5 @@
 -- What the quick check answers. Assumes nothing.
-use Rattle.std.specs.Prelude.{◌≡◌, ℕ, ◌*◌, ◌^◌, Bool, true, false, ◌&&◌, List, [], ◌∷◌, ◌++◌, length, Ok, Err, Result, nat_lt}
+use Rattle.std.specs.Prelude.{◌≡◌, ℕ, ◌*◌, ◌^◌, Bool, true, false, ◌&&◌, List, [], ◌∷◌, ◌++◌, length, Ok, Result, nat_lt}
 use Rattle.protocol.specs.Group.{power, product}
 use Rattle.protocol.specs.Quick.{quick_scalars}
 use Rattle.protocol.specs.Weights.{HWeights}

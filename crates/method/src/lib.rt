@@ -1,4 +1,6 @@
 // Checking methods: whether a last pair passes, for lists folded by a table of challenges.
+#![tactic(auto)]
+
 pub mod admit;
 pub mod commitments;
 pub mod fault;

@@ -1,4 +1,4 @@
-use Rattle.std.proofs.Common.{◌≡◌, ℕ, ◌+◌, ◌<◌, ◌≤◌, [], ◌∷◌, ◌++◌, map, length, get_or, take, sym, ap, ◌∙◌, ap₂, arith}
+use Rattle.std.proofs.Common.{◌≡◌, ℕ, ◌+◌, [], ◌∷◌, ◌++◌, map, length, sym, ap, ◌∙◌, ap₂, arith}
 use Rattle.std.proofs.lemmas.List.{take_more_set, take_all, map_more}
 use Rattle.kind.specs.Kinds.{elements}
 use Rattle.method.specs.Sides.{fold_of}
@@ -15,10 +15,10 @@ loop-i-preserved g c =
     let i : ℕ = c.loop-i.i in
     let two : length xs ≡ m + m = length-elements s c.args.src.now ∙ sym c.requires.half in
     let n = length-fold s c.args.side c.args.c m xs two in
-    let v = fold_is s c.args.side c.args.c m i xs c.element-at-x.result c.element-at-y.result c.fold-pair.result s.group.unit s.group.unit
-    two (omega arith) c.element-at-x.ensures c.element-at-y.ensures c.fold-pair.ensures in
-    take_more_set c.loop-i.out i c.to-entry.result (omega arith)
-    ∙ ap₂ (λ l d. l ++ (d ∷ [])) c.loop-i.invariant (c.to-entry.ensures ∙ ap s.entry v)
+    let v = fold_is s c.args.side c.args.c m i xs c.element_at-x.result c.element_at-y.result c.fold_pair.result s.group.unit s.group.unit
+    two (omega arith) c.element_at-x.ensures c.element_at-y.ensures c.fold_pair.ensures in
+    take_more_set c.loop-i.out i c.to_entry.result (omega arith)
+    ∙ ap₂ (λ l d. l ++ (d ∷ [])) c.loop-i.invariant (c.to_entry.ensures ∙ ap s.entry v)
     ∙ sym (map_more s.entry fs i s.group.unit (omega arith))
 
 pub returns : goal.returns

@@ -1,4 +1,4 @@
-use Rattle.std.proofs.Common.{◌≡◌, ℕ, ◌+◌, ◌<◌, ◌≤◌, ◌++◌, length, get_or, take, drop, set, sym, ap, ◌∙◌, subst, arith}
+use Rattle.std.proofs.Common.{◌≡◌, ℕ, ◌+◌, ◌<◌, ◌≤◌, length, get_or, take, drop, set, sym, ap, ◌∙◌, subst, arith}
 use Rattle.std.proofs.lemmas.List.{get_or-take, take_at, take_all, length-take-le}
 use Rattle.kind.specs.Kinds.{AllElements, elements}
 use Rattle.method.specs.Sides.{fold_of}
@@ -24,11 +24,11 @@ loop-i-preserved g c =
     let n = length-fold s side ch m xs two in
     let at : (j : ℕ) → i ≤ j → j < m + m → get_or (elements s work) j s.group.unit ≡ get_or xs j s.group.unit =
     λ j low high. ap (λ l. get_or l j s.group.unit) c.loop-i.invariant.1 ∙ over_rest fs ws i j s.group.unit (omega arith) low ∙ sym (get_or-take (m + m) ws j s.group.unit high) in
-    let v = c.fold-pair.result in
-    let is = fold_is s side ch m i xs c.element-at-x.result c.element-at-y.result v s.group.unit v
-    two (omega arith) (c.element-at-x.ensures ∙ at i (omega arith) (omega arith)) (c.element-at-y.ensures ∙ at (m + i) (omega arith) (omega arith)) c.fold-pair.ensures in (
-      subst (λ d. AllElements s (set work i d)) (sym c.to-entry.ensures) (all_set s laws work i v c.loop-i.invariant.0),
-      ap (λ d. elements s (set work i d)) c.to-entry.ensures ∙ elements-set s laws work i v ∙ ap (λ l. set l i v) c.loop-i.invariant.1
+    let v = c.fold_pair.result in
+    let is = fold_is s side ch m i xs c.element_at-x.result c.element_at-y.result v s.group.unit v
+    two (omega arith) (c.element_at-x.ensures ∙ at i (omega arith) (omega arith)) (c.element_at-y.ensures ∙ at (m + i) (omega arith) (omega arith)) c.fold_pair.ensures in (
+      subst (λ d. AllElements s (set work i d)) (sym c.to_entry.ensures) (all_set s laws work i v c.loop-i.invariant.0),
+      ap (λ d. elements s (set work i d)) c.to_entry.ensures ∙ elements-set s laws work i v ∙ ap (λ l. set l i v) c.loop-i.invariant.1
           ∙ over_more fs ws i v (omega arith) (omega arith) is,
     )
 

@@ -1,9 +1,9 @@
-use Rattle.std.proofs.Common.{◌≡◌, ℕ, ◌+◌, ◌-◌, ◌*◌, ◌<◌, List, reverse, length, get_or, sym, refl, ap, ◌∙◌, ap₂, arith}
+use Rattle.std.proofs.Common.{◌≡◌, ℕ, ◌+◌, ◌-◌, ◌*◌, ◌<◌, List, length, get_or, sym, ap, ◌∙◌, arith}
 use lib.Lanes.{zip2}
 use lib.ListN.{length-reverse}
 use Rattle.std.proofs.lemmas.Simd.{length-zip2, get_or-zip2}
 use Rattle.std.proofs.lemmas.List.{get_or-reverse}
-use Rattle.protocol.specs.Group.{product, power}
+use Rattle.protocol.specs.Group.{product}
 use Rattle.protocol.specs.Weights.{g_weights}
 use Rattle.kind.specs.Kinds.{elements}
 use Rattle.kind.proofs.Joins.{join_more, join_all}
@@ -35,8 +35,8 @@ loop-i-preserved g c =
     ∙ ap (λ (n : ℕ). f n (get_or ws i 0)) (sym (get_or-reverse ws i 0 here))
     ∙ sym (get_or-zip2 f (g_weights ws) ws i 0 0 0 (omega arith) here) in
     join_more s.group g.K.Kind.laws.group (elements s c.args.g.now) es i
-    c.element-at-x.result s.group.unit c.loop-i.total c.power.result c.join-total.result _
-    (omega arith) (omega arith) c.element-at-x.ensures is (c.power.ensures ∙ c.sum-of-products.ensures c.element-at-x.result) c.join-total.ensures
+    c.element_at-x.result s.group.unit c.loop-i.total c.power.result c.join-total.result _
+    (omega arith) (omega arith) c.element_at-x.ensures is (c.power.ensures ∙ c.sum_of_products.ensures c.element_at-x.result) c.join-total.ensures
     ∙ c.loop-i.invariant
 
 pub returns : goal.returns

@@ -1,4 +1,4 @@
-use Rattle.std.proofs.Common.{◌≡◌, ℕ, ◌+◌, ◌*◌, ◌%◌, ◌^◌, List, length, sym, refl, ap, ◌∙◌, ap₂, arith}
+use Rattle.std.proofs.Common.{◌≡◌, ℕ, ◌+◌, ◌*◌, ◌%◌, List, length, sym, ap, ◌∙◌, ap₂, arith}
 use lib.Lanes.{zip2}
 use lib.ListN.{length-reverse}
 use Rattle.protocol.specs.Group.{power, product}
@@ -20,21 +20,21 @@ returns g c = λ ws good.
     let q : ℕ = s.order in
     let laws = g.K.Kind.laws.group in
     let cs : List ℕ = reduced s c.args.cs.now in
-    let made : List ℕ = c.fill-weights.new.ws in
+    let made : List ℕ = c.fill_weights.new.ws in
     let a : ℕ = c.args.a in
     let b : ℕ = c.args.b in
     let w : ℕ = c.args.weight in
     let gs = elements s c.args.g.now in
-    let same : made ≡ ws = weights_are q cs made c.fill-weights.ensures ∙ sym (weights_are q cs ws good) in
+    let same : made ≡ ws = weights_are q cs made c.fill_weights.ensures ∙ sym (weights_are q cs ws good) in
     let n = length-elements s c.args.g.now in
     let size : length made ≡ length gs = (let room = c.requires.room in let long = c.requires.long in omega arith) in
-    let joined : c.join-weighted-joined.result ≡ product o gs (quick_scalars ws a b w) =
-    c.join-weighted-joined.ensures
-    ∙ ap (λ (e : ℕ). product o gs (zip2 (λ x y. a * x + e * y) (g_weights made) made)) c.mul-scalars-e.ensures
+    let joined : c.join_weighted-joined.result ≡ product o gs (quick_scalars ws a b w) =
+    c.join_weighted-joined.ensures
+    ∙ ap (λ (e : ℕ). product o gs (zip2 (λ x y. a * x + e * y) (g_weights made) made)) c.mul_scalars-e.ensures
     ∙ weighted_mod laws a (w * b) gs (g_weights made) made (length-reverse made ∙ size) size
     ∙ ap (λ (l : List ℕ). product o gs (quick_scalars l a b w)) same in
-    let exponent : c.mul-scalars-wab.result ≡ w * a * b % q =
-    c.mul-scalars-wab.ensures ∙ ap (λ (n : ℕ). n * b % q) c.mul-scalars-wa.ensures ∙ mod_mul_left (w * a) b q in
+    let exponent : c.mul_scalars-wab.result ≡ w * a * b % q =
+    c.mul_scalars-wab.ensures ∙ ap (λ (n : ℕ). n * b % q) c.mul_scalars-wa.ensures ∙ mod_mul_left (w * a) b q in
     let total : c.power.result ≡ power o c.args.key (w * a * b) =
     c.power.ensures ∙ ap (power o c.args.key) exponent ∙ pow-mod laws c.args.key (w * a * b) in
     let left : c.join-left.result ≡ o.join (product o gs (quick_scalars ws a b w)) (power o c.args.key (w * a * b)) =

@@ -1,4 +1,4 @@
-use Rattle.std.proofs.Common.{◌≡◌, ℕ, ◌-◌, ◌++◌, length, take, drop, replicate, sym, ap, ◌∙◌, ap₂}
+use Rattle.std.proofs.Common.{◌≡◌, ℕ, ◌-◌, ◌++◌, length, replicate, sym, ap, ◌∙◌, ap₂}
 use Rattle.std.proofs.lemmas.List.{take-append-drop}
 use Rattle.method.proofs.Sized.{counted}
 use Rattle.method.proofs.theorems.challenges_determine_table.Goals as goal

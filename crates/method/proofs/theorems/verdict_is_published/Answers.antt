@@ -1,4 +1,4 @@
-use Rattle.std.proofs.Common.{◌≡◌, ◌*◌, ◌&&◌, sym, refl, ap, ◌∙◌, ap₂}
+use Rattle.std.proofs.Common.{◌*◌, ◌&&◌, ap₂}
 use Rattle.protocol.specs.Group.{power}
 use Rattle.protocol.specs.Halving.{last_g, last_h}
 use Rattle.kind.specs.Both.{both_true}

@@ -1,22 +1,22 @@
-use Rattle.std.proofs.Common.{◌≡◌, ℕ, ◌-◌, ◌*◌, ◌%◌, ◌^◌, ◌<◌, ◌≤◌, List, length, get_or, sym, ap, ◌∙◌, arith, length-set, pow_mono}
+use Rattle.std.proofs.Common.{◌≡◌, ℕ, ◌-◌, ◌*◌, ◌%◌, ◌^◌, ◌≤◌, List, length, get_or, sym, ap, ◌∙◌, arith, length-set, pow_mono}
 use Rattle.std.proofs.lemmas.List.{get_or-map, length-map}
 use Rattle.method.specs.Meaning.{reduced}
 use Rattle.method.proofs.Weighing.{bit_below, built_more, built_all}
 use Rattle.method.proofs.weights.fill_weights.Goals as goal
 
-pub two-to-requires : goal.two-to-requires
-two-to-requires g c =
+pub two_to-requires : goal.two_to-requires
+two_to-requires g c =
     let m : 2 ^ length c.args.cs.now ≤ 2 ^ 8 = pow_mono c.requires.few in
     let room = c.requires.room in
     let kept = length-set c.args.ws.now 0 1 in
-    let low = bit_below c.top-bit-t.result 8 c.loop-i.i (c.top-bit-t.ensures.low (omega arith)) (omega arith) in
+    let low = bit_below c.top_bit-t.result 8 c.loop-i.i (c.top_bit-t.ensures.low (omega arith)) (omega arith) in
     omega arith
 
-pub overflow-sub-cs-in-loop-i : goal.overflow-sub-cs-in-loop-i
-overflow-sub-cs-in-loop-i g c =
+pub overflow_sub-cs-in-loop-i : goal.overflow_sub-cs-in-loop-i
+overflow_sub-cs-in-loop-i g c =
     let room = c.requires.room in
     let kept = length-set c.args.ws.now 0 1 in
-    let h = bit_below c.top-bit-t.result (length c.args.cs.now) c.loop-i.i (c.top-bit-t.ensures.low (omega arith)) (omega arith) in
+    let h = bit_below c.top_bit-t.result (length c.args.cs.now) c.loop-i.i (c.top_bit-t.ensures.low (omega arith)) (omega arith) in
     omega arith
 
 pub loop-i-preserved : goal.loop-i-preserved
@@ -26,17 +26,17 @@ loop-i-preserved g c =
     let rs : List ℕ = reduced s cs in
     let ws : List ℕ = c.loop-i.ws in
     let i : ℕ = c.loop-i.i in
-    let t : ℕ = c.top-bit-t.result in
+    let t : ℕ = c.top_bit-t.result in
     let room = c.requires.room in
     let kept = length-set c.args.ws.now 0 1 in
     let long : length rs ≡ length cs = length-map cs (λ x. x % s.order) in
-    let h = bit_below t (length cs) i (c.top-bit-t.ensures.low (omega arith)) (omega arith) in
+    let h = bit_below t (length cs) i (c.top_bit-t.ensures.low (omega arith)) (omega arith) in
     let at : ℕ = length cs - 1 - t in
-    let is = c.mul-scalars.ensures
-    ∙ ap (λ (q : ℕ). get_or ws (i - c.two-to.result) 0 * (get_or cs at 0 % q) % s.order) c.order-q.ensures
-    ∙ ap (λ (n : ℕ). get_or ws (i - n) 0 * (get_or cs at 0 % s.order) % s.order) c.two-to.ensures
+    let is = c.mul_scalars.ensures
+    ∙ ap (λ (q : ℕ). get_or ws (i - c.two_to.result) 0 * (get_or cs at 0 % q) % s.order) c.order-q.ensures
+    ∙ ap (λ (n : ℕ). get_or ws (i - n) 0 * (get_or cs at 0 % s.order) % s.order) c.two_to.ensures
     ∙ ap (λ (x : ℕ). get_or ws (i - 2 ^ t) 0 * x % s.order) (sym (get_or-map (λ x. x % s.order) cs at 0 0 (omega arith)) ∙ ap (λ (n : ℕ). get_or rs (n - 1 - t) 0) (sym long)) in
-    built_more s.order rs ws i t c.mul-scalars.result (omega arith) (omega arith) c.top-bit-t.ensures is c.loop-i.invariant
+    built_more s.order rs ws i t c.mul_scalars.result (omega arith) (omega arith) c.top_bit-t.ensures is c.loop-i.invariant
 
 pub returns : goal.returns
 returns g c =

@@ -19,11 +19,11 @@ returns g c =
     let hs = c.args.h.now in
     let long : length rs ≡ length cs = length-map cs (λ x. x % s.order) in
     let pw = ap (λ (n : ℕ). 2 ^ n) (sym long) in
-    let ws : List ℕ = c.fill-weights.new.ws in
-    let out_g = multiplies_out laws rs ws c.fill-weights.ensures (elements s gs) (length-elements s gs ∙ c.requires.long_g ∙ pw) in
-    let out_h = multiplies_out laws rs ws c.fill-weights.ensures (elements s hs) (length-elements s hs ∙ c.requires.long_h ∙ pw) in
-    let x : c.join-powers-x.result ≡ last_g s.order o rs (elements s gs) =
-    c.join-powers-x.ensures ∙ ap (product o (elements s gs)) c.reverse.ensures.after ∙ sym (ap (λ l. get_or l 0 o.unit) out_g.1) in
-    let y : c.join-powers-y.result ≡ last_h s.order o rs (elements s hs) =
-    c.join-powers-y.ensures ∙ sym (ap (λ l. get_or l 0 o.unit) out_h.0) in
+    let ws : List ℕ = c.fill_weights.new.ws in
+    let out_g = multiplies_out laws rs ws c.fill_weights.ensures (elements s gs) (length-elements s gs ∙ c.requires.long_g ∙ pw) in
+    let out_h = multiplies_out laws rs ws c.fill_weights.ensures (elements s hs) (length-elements s hs ∙ c.requires.long_h ∙ pw) in
+    let x : c.join_powers-x.result ≡ last_g s.order o rs (elements s gs) =
+    c.join_powers-x.ensures ∙ ap (product o (elements s gs)) c.reverse.ensures.after ∙ sym (ap (λ l. get_or l 0 o.unit) out_g.1) in
+    let y : c.join_powers-y.result ≡ last_h s.order o rs (elements s hs) =
+    c.join_powers-y.ensures ∙ sym (ap (λ l. get_or l 0 o.unit) out_h.0) in
     c.passes.ensures ∙ ap₂ (λ u v. passes s c.args.z c.args.key u v c.args.a c.args.b) x y
