@@ -1,15 +1,14 @@
 -- Answers passed up from the method's layer. Assumes nothing.
-use Rattle.std.proofs.Common.{◌≡◌, ℕ, zero, suc, ◌+◌, ◌*◌, ◌^◌, ◌<◌, ◌≤◌, Bool, true, false, cond, ◌&&◌, ◌||◌, eqb, ltb, leb, List, [], ◌∷◌, map, length, take, drop, Ok, Err, Result, sym, refl, ap, ◌∙◌, arith, ltb-true, le-ltb, ne_eqb, le-leb, leb-true}
+use Rattle.std.proofs.Common.{◌≡◌, ℕ, zero, suc, ◌+◌, ◌*◌, ◌^◌, ◌<◌, ◌≤◌, Bool, true, false, cond, ◌&&◌, ◌||◌, eqb, ltb, leb, List, [], ◌∷◌, length, take, drop, Ok, Err, Result, sym, refl, ap, ◌∙◌, arith, ltb-true, le-ltb, ne_eqb, le-leb, leb-true}
 use Rattle.kind.proofs.Steps.{both-went, held, passed_on}
 use Rattle.kind.specs.Both.{both_true}
 use Rattle.kind.specs.Bytes.{Writing, number_in}
-use Rattle.kind.specs.Faults.{and_then, first_of, unless, wrapped, first_bad}
+use Rattle.kind.specs.Faults.{first_of, unless, wrapped, first_bad}
 use Rattle.method.specs.Entries.{outside}
 use Rattle.method.specs.Meaning.{cleared}
 use Rattle.method.specs.Tables.{table_answer}
-use Rattle.method.specs.declared.fault.MethodFault.{MethodFault}
-use Rattle.method.specs.declared.fault.MethodFault.TheVariants.{TooManyRounds, NotAChallenge}
-use Rattle.record.specs.Contents.{Contents, shape_in, rest_in, body_in, contents_in}
+use Rattle.method.specs.declared.fault.MethodFault.TheVariants.{NotAChallenge}
+use Rattle.record.specs.Contents.{Contents, shape_in, rest_in, contents_in}
 use Rattle.record.specs.Fields.{round_of, pair_in, round_in, challenge_in, last_in}
 use Rattle.record.specs.Folded.{challenges_of}
 use Rattle.record.specs.Parts.{size_of_round, size_of_claim, record_length, rounds_in}

@@ -1,7 +1,7 @@
 -- The parts of a record, one by one. Assumes nothing.
-use Rattle.std.proofs.Common.{◌≡◌, ℕ, zero, suc, ◌+◌, ◌-◌, ◌*◌, ◌≤◌, List, [], ◌∷◌, take, drop, refl, ap, suc-mul, arith}
+use Rattle.std.proofs.Common.{◌≡◌, ℕ, zero, suc, ◌+◌, ◌-◌, ◌*◌, List, ◌∷◌, take, drop, refl, ap, suc-mul, arith}
 use Rattle.record.specs.Noting.{size_of_all, rounds_only}
-use Rattle.record.specs.Parts.{Piece, round, round_pieces, size_of_round}
+use Rattle.record.specs.Parts.{round, round_pieces, size_of_round}
 
 pub pieces_more : (size k : ℕ) (bs : List ℕ) → (k ≡ 0 → ⊥) → round_pieces size k bs ≡ round (take size bs) ∷ round_pieces size (k - 1) (drop size bs)
 pieces_more size zero bs h = absurd (h refl)

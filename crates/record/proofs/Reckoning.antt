@@ -4,7 +4,7 @@ use Rattle.kind.specs.Bytes.{Writing}
 use Rattle.kind.specs.Faults.{and_then}
 use Rattle.kind.specs.Kinds.{Meaning}
 use Rattle.kind.specs.declared.pair.Pair.{Pair}
-use Rattle.record.specs.Contents.{Contents, rest_in, body_in}
+use Rattle.record.specs.Contents.{rest_in, body_in}
 use Rattle.record.specs.Fields.{pair_in, round_in, last_in}
 use Rattle.record.specs.Folded.{Reckoned, challenges_of, folded_by, reckoned}
 use Rattle.record.specs.Noting.{with_claim, with_round, with_last, nothing, gathered}

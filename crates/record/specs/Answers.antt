@@ -5,7 +5,7 @@ use Rattle.kind.specs.Faults.{and_then, wrapped}
 use Rattle.kind.specs.Kinds.{Meaning}
 use Rattle.method.specs.Meaning.{method_answer}
 use Rattle.method.specs.Tables.{table_answer}
-use Rattle.record.specs.Contents.{Contents, contents_in}
+use Rattle.record.specs.Contents.{contents_in}
 use Rattle.record.specs.Folded.{Reckoned, reckoned}
 use Rattle.record.specs.Parts.{Piece, pieces_in, left, rounds_in}
 use Rattle.record.specs.declared.fault.RecordFault.{RecordFault}

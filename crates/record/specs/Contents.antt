@@ -1,5 +1,5 @@
 -- What a record says, read field by field, or the first fault in it. Assumes nothing.
-use Rattle.std.specs.Prelude.{ℕ, zero, suc, ◌+◌, ◌*◌, List, [], ◌∷◌, length, take, drop, Ok, Err, Result, ◌==◌, nat_le, nat_lt}
+use Rattle.std.specs.Prelude.{ℕ, zero, suc, ◌+◌, List, [], ◌∷◌, length, take, drop, Ok, Result, ◌==◌, nat_le, nat_lt}
 use Rattle.kind.specs.Bytes.{Writing}
 use Rattle.kind.specs.Faults.{and_then, first_of, unless}
 use Rattle.kind.specs.declared.pair.Pair.{Pair}

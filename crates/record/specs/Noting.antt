@@ -1,5 +1,5 @@
 -- A record reckoned up part by part, as the reader hands the parts out. Assumes nothing.
-use Rattle.std.specs.Prelude.{ℕ, ◌+◌, List, [], ◌∷◌, ◌++◌, Ok, Err, Result}
+use Rattle.std.specs.Prelude.{ℕ, ◌+◌, List, [], ◌∷◌, ◌++◌, Ok, Result}
 use Rattle.kind.specs.Bytes.{Writing}
 use Rattle.kind.specs.Faults.{and_then}
 use Rattle.kind.specs.Kinds.{Meaning}

@@ -1,5 +1,5 @@
 -- The parts of a record, as lists of bytes: one byte k, then the claim, k rounds and the last pair. Assumes nothing.
-use Rattle.std.specs.Prelude.{ℕ, zero, suc, ◌+◌, ◌*◌, List, [], ◌∷◌, length, take, drop, slice_index}
+use Rattle.std.specs.Prelude.{ℕ, zero, suc, ◌+◌, ◌*◌, List, [], ◌∷◌, take, drop, slice_index}
 use Rattle.record.specs.declared.part.Part.{Part}
 use Rattle.record.specs.declared.part.Part.TheVariants as part
 use Rattle.record.specs.declared.part.Stage.{Stage}

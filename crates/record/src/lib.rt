@@ -1,4 +1,6 @@
 // Noted records: the claim, the rounds and the last pair of one case, written one behind the other.
+#![tactic(auto)]
+
 pub mod check;
 pub mod fault;
 mod fields;

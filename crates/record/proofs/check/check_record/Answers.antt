@@ -1,4 +1,4 @@
-use Rattle.std.proofs.Common.{◌≡◌, ℕ, ◌^◌, List, length, Ok, sym, refl, ap, ◌∙◌}
+use Rattle.std.proofs.Common.{◌≡◌, ℕ, ◌^◌, List, length, Ok, sym, ap, ◌∙◌}
 use Rattle.kind.specs.Faults.{and_then, wrapped}
 use Rattle.kind.specs.Kinds.{unit_entry}
 use Rattle.method.specs.Meaning.{cleared}
@@ -16,10 +16,10 @@ returns g c =
     let s = g.K.Kind.meaning in
     let w = g.K.WrittenKind.writing in
     let bs : List ℕ = c.args.bytes.now in
-    let we = c.args.work-elements.now in
-    let wn = c.args.work-numbers.now in
-    let noted = c.in-ok-noted.noted in
-    let p = both-went (contents_in w s.order bs) _ (seen noted) (sym c.read-whole.ensures ∙ ap seen_in c.in-ok-noted.was) in
+    let we = c.args.work_elements.now in
+    let wn = c.args.work_numbers.now in
+    let noted = c.in_ok-noted.noted in
+    let p = both-went (contents_in w s.order bs) _ (seen noted) (sym c.read_whole.ensures ∙ ap seen_in c.in_ok-noted.was) in
     let x = p.0 in
     let h : Ok (reckoned s x) ≡ Ok (seen noted) = p.2 in
     let same : seen noted ≡ reckoned s x = cc in

@@ -1,4 +1,4 @@
-use Rattle.std.proofs.Common.{◌≡◌, ℕ, ◌^◌, List, length, take, Ok, sym, refl, ap, ◌∙◌}
+use Rattle.std.proofs.Common.{◌≡◌, ℕ, ◌^◌, List, length, take, Ok, sym, ap, ◌∙◌}
 use Rattle.kind.specs.Faults.{and_then, wrapped}
 use Rattle.kind.specs.Kinds.{unit_entry}
 use Rattle.method.specs.Meaning.{method_answer, cleared}
@@ -15,14 +15,14 @@ returns-in-Ok g c =
     let s = g.K.Kind.meaning in
     let n = c.args.noted in
     let cs : List ℕ = take n.count n.challenges in
-    let we = c.args.work-elements.now in
-    let wn = c.args.work-numbers.now in
+    let we = c.args.work_elements.now in
+    let wn = c.args.work_numbers.now in
     let ts : List ℕ = challenges c.in-Ok.table in
     let made : table_answer cs ≡ Ok ts = sym (ap table_answer c.cut.ensures.front) ∙ sym c.new.ensures ∙ ap listed c.in-Ok.is in
     let p = passed_on _ cs ts made in
     let same : ts ≡ cs = p.2 in
     let answer = c.verdict-r.ensures.answer ∙ ap (λ (l : List ℕ). method_answer s l n.z c.args.g.now c.args.h.now c.args.key n.a n.b (length we) (length wn)) same in
-    let up = c.in-record.ensures in
+    let up = c.in_record.ensures in
     record {
       answer = up ∙ ap (λ r. wrapped Method r 0) answer
           ∙ sym (ap (λ r. and_then (wrapped Method r 0) (λ _. reckoned_answer s (seen n) c.args.g.now c.args.h.now c.args.key (length we) (length wn))) p.1);

@@ -1,4 +1,4 @@
-use Rattle.std.proofs.Common.{◌≡◌, ℕ, ◌+◌, ◌*◌, ◌≤◌, List, [], ◌∷◌, drop, Ok, sym, refl, ap, ◌∙◌, ap₂, mul-le-mul, arith}
+use Rattle.std.proofs.Common.{◌≡◌, ℕ, ◌+◌, ◌*◌, ◌≤◌, List, [], ◌∷◌, drop, Ok, sym, ap, ◌∙◌, ap₂, mul-le-mul, arith}
 use Rattle.kind.specs.Faults.{and_then}
 use Rattle.record.specs.Folded.{Reckoned, seen, seen_in}
 use Rattle.record.specs.Noting.{taken_in, gathered, nothing, round_only, rounds_only, size_of, size_of_all}
@@ -12,7 +12,7 @@ loop-part-init g c =
     let w = g.K.WrittenKind.writing in
     let bs : List ℕ = c.args.bytes.now in
     let width : ℕ = w.width in
-    let e : left c.at-width-reader.result ≡ pieces_in width bs = c.at-width-reader.ensures ∙ ap (λ (n : ℕ). pieces_in n bs) c.width-width.ensures in
+    let e : left c.at_width-reader.result ≡ pieces_in width bs = c.at_width-reader.ensures ∙ ap (λ (n : ℕ). pieces_in n bs) c.width-width.ensures in
     let start : Reckoned _ = nothing s in
     let few : rounds_in bs ≤ 8 = c.requires in
     let slim : width ≤ 64 = g.met.K.WrittenKind.writes.few in
@@ -31,14 +31,14 @@ loop-part-preserved g c =
     let p : Piece = piece_of c.in-Some.part in
     let more : left c.loop-part.reader ≡ p ∷ left c.next.new.self = c.in-Some.ensures in
     let old = seen c.loop-part.noted in
-    let taken : taken_in s w c.loop-part.place old p ≡ Ok (seen c.in-ok-noted.noted) =
-    sym c.note-part.ensures.noted ∙ ap seen_in c.in-ok-noted.was in
-    let size : c.part-size-place.result ≡ size_of w.width p = c.part-size-place.ensures ∙ ap (λ (n : ℕ). size_of n p) c.width-width.ensures in
+    let taken : taken_in s w c.loop-part.place old p ≡ Ok (seen c.in_ok-noted.noted) =
+    sym c.note_part.ensures.noted ∙ ap seen_in c.in_ok-noted.was in
+    let size : c.part_size-place.result ≡ size_of w.width p = c.part_size-place.ensures ∙ ap (λ (n : ℕ). size_of n p) c.width-width.ensures in
     let rest = left c.next.new.self in
     let er = ap rounds_only more in
     let es = ap (size_of_all w.width) more in
-    let count : c.in-ok-noted.noted.count ≡ c.loop-part.noted.count + round_only p = c.in-ok-noted.ensures.counted in (
-      ap (λ (n : ℕ). gathered s w (c.loop-part.place + n) (seen c.in-ok-noted.noted) rest) size
+    let count : c.in_ok-noted.noted.count ≡ c.loop-part.noted.count + round_only p = c.in_ok-noted.ensures.counted in (
+      ap (λ (n : ℕ). gathered s w (c.loop-part.place + n) (seen c.in_ok-noted.noted) rest) size
           ∙ sym (ap (λ r. and_then r (λ t. gathered s w (c.loop-part.place + size_of w.width p) t rest)) taken)
           ∙ sym (ap (gathered s w c.loop-part.place old) more)
           ∙ c.loop-part.invariant.0,
