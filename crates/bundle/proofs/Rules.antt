@@ -1,5 +1,5 @@
 -- The check of a directory finds the first pair that breaks its rule. Assumes nothing.
-use Rattle.std.proofs.Common.{◌≡◌, ℕ, zero, suc, ◌+◌, ◌-◌, ◌*◌, ◌<◌, ◌≤◌, Bool, true, false, cond, ◌&&◌, leb, ◌⊎◌, List, [], ◌∷◌, map, length, get_or, take, drop, Ok, Err, Result, sym, refl, ap, ◌∙◌, subst, inl, inr, ⊎_elim, add-zero, zero-add, arith, length-drop, MatchResult}
+use Rattle.std.proofs.Common.{◌≡◌, ℕ, zero, suc, ◌+◌, ◌*◌, ◌<◌, ◌≤◌, Bool, true, false, cond, ◌&&◌, leb, ◌⊎◌, List, [], ◌∷◌, map, length, get_or, drop, Ok, Err, Result, sym, refl, ap, ◌∙◌, subst, inl, inr, ⊎_elim, add-zero, zero-add, arith, length-drop, MatchResult}
 use lib.ListN.{length-map}
 use Rattle.std.proofs.lemmas.List.{drop-drop, length-take-le}
 use Rattle.std.proofs.lemmas.Bool.{leb-true, leb-false, and_parts, and_from, le-leb, cases_Bool, both_ways}
@@ -9,7 +9,7 @@ use Rattle.bundle.specs.declared.fault.BundleFault.TheVariants.{Directory}
 use Rattle.bundle.specs.declared.pairs.Extent.{Extent}
 use Rattle.bundle.specs.Layout.{count_in, pair_in, pairs_in, all_pairs, directory_end, end, pairs_refusal, all_pairs_refusal, directory_refusal}
 use Rattle.bundle.specs.Bodies.{body_at, bodies_in}
-use Rattle.bundle.specs.Laws.{pair_at, KeepsRule, Sound, CutShort, FirstBroken, FaultIsFirst, WholeBodies, BodiesAreWhole}
+use Rattle.bundle.specs.Laws.{pair_at, KeepsRule, Sound, CutShort, FirstBroken, FaultIsFirst, BodiesAreWhole}
 use Rattle.bundle.proofs.Steps.{length-pairs_in}
 
 -- the pair of the index i

@@ -1,5 +1,5 @@
 -- The pairs of a directory, one by one. Assumes nothing.
-use Rattle.std.proofs.Common.{◌≡◌, ℕ, zero, suc, ◌+◌, ◌-◌, ◌<◌, List, ◌∷◌, length, drop, refl, ap, ◌∙◌, arith}
+use Rattle.std.proofs.Common.{◌≡◌, ℕ, zero, suc, ◌+◌, ◌-◌, ◌<◌, List, ◌∷◌, length, drop, refl, ap, arith}
 use Rattle.bundle.specs.Layout.{pair_in, pairs_in}
 
 pub pairs_more : (n i : ℕ) (bytes : List ℕ) → i < n → pairs_in (n - i) bytes ≡ pair_in bytes ∷ pairs_in (n - (i + 1)) (drop 8 bytes)
