@@ -1,4 +1,6 @@
 // Reads a bundle of clear-kind records from standard input, checks each by halving over the bench lists, and prints the verdicts.
+#![tactic(auto)]
+
 use bundle::fault::BundleFault;
 use bundle::records::Records;
 use kind::bench::fill_bench;
