@@ -1,4 +1,6 @@
 // Examples that are run: small cases with numbers worked out by hand.
+#![tactic(auto)]
+
 mod writing;
 
 #[cfg(test)]
