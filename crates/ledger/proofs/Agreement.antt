@@ -4,9 +4,9 @@ use mathlib.Core.List.{map-append}
 use borrow.Author.Tests.{eqb-false}
 use lib.ListN.{length-map}
 use Rattle.protocol.specs.Group.{power}
-use Rattle.protocol.specs.Halving.{Standing, Sized, TrueClaim, fold_commitment, fold_g, fold_h, folds_g, folds_h, last_g, last_h}
+use Rattle.protocol.specs.Halving.{Standing, Sized, TrueClaim, fold_g, fold_h, folds_g, folds_h, last_g, last_h}
 use Rattle.protocol.proofs.Claims.{keeps, complete}
-use Rattle.kind.specs.Faults.{first_of, unless, wrapped, first_bad}
+use Rattle.kind.specs.Faults.{unless, wrapped, first_bad}
 use Rattle.kind.specs.Kinds.{Meaning, Lawful, elements}
 use Rattle.kind.specs.Products.{entries_refusal}
 use Rattle.kind.specs.declared.fault.KindFault.TheVariants.{NotAnElement}
@@ -17,39 +17,8 @@ use Rattle.method.specs.Commitments.{fold_commitments}
 use Rattle.method.specs.Meaning.{is_size, length_refusals, content_refusals, method_refused, reduced, verdict_of}
 use Rattle.method.specs.declared.fault.MethodFault.{MethodFault}
 use Rattle.method.specs.declared.fault.MethodFault.TheVariants.{Kind}
-use Rattle.ledger.specs.Ledger.{
-  Case,
-  Ledger,
-  Step,
-  Call,
-  opening,
-  message,
-  draw,
-  last_pair,
-  withdrawal,
-  page_turn,
-  Last,
-  step,
-  step_on,
-  of_sort,
-  opening_step,
-  message_at,
-  message_case,
-  draw_at,
-  draw_case,
-  last_pair_at,
-  last_pair_case,
-  withdrawal_step,
-  drawn,
-  judged,
-  case_answer,
-  stage_after,
-  same_numbers,
-  numbers_at,
-  lower,
-  upper,
-}
-use Rattle.ledger.specs.Promise.{accepted, noted}
+use Rattle.ledger.specs.Ledger.{Case, Ledger, Step, Call, opening, message, draw, last_pair, withdrawal, page_turn, Last, step, step_on, of_sort, opening_step, message_at, draw_at, last_pair_at, drawn, judged, case_answer, stage_after, same_numbers, numbers_at, lower, upper}
+use Rattle.ledger.specs.Promise.{noted}
 use Rattle.ledger.specs.Rules.{Lists, folded, claim_of, message_of, GoesOn, round, last, Follows}
 use Rattle.ledger.specs.declared.parts.Message.{Message}
 use Rattle.ledger.specs.declared.parts.Numbers.{Numbers}

@@ -1,5 +1,5 @@
 -- A case by the rules goes through. Assumes nothing.
-use Rattle.std.proofs.Common.{◌≡◌, ℕ, zero, suc, ◌+◌, ◌*◌, ◌%◌, ◌^◌, ◌<◌, ◌≤◌, Bool, true, false, cond, ◌||◌, eqb, ltb, leb, List, [], ◌∷◌, map, length, get_or, Some, None, Option, sym, refl, ap, ◌∙◌, subst, ap₂, mod-lt, pow-suc, arith, le-ltb, eq-eqb, ne_eqb}
+use Rattle.std.proofs.Common.{◌≡◌, ℕ, zero, suc, ◌+◌, ◌^◌, ◌<◌, ◌≤◌, Bool, true, false, cond, ◌||◌, eqb, ltb, leb, List, [], ◌∷◌, length, get_or, Some, None, Option, sym, refl, ap, ◌∙◌, subst, ap₂, mod-lt, pow-suc, arith, le-ltb, eq-eqb, ne_eqb}
 use borrow.Author.Tests.{lt-leb}
 use lib.ListN.{length-map}
 use lib.Lanes.{zip2}
@@ -7,31 +7,9 @@ use Rattle.protocol.specs.Halving.{first_half, last_half}
 use Rattle.protocol.proofs.Claims.{half_length}
 use Rattle.kind.specs.Kinds.{Meaning, Lawful}
 use Rattle.kind.specs.declared.pair.Pair.{Pair}
-use Rattle.ledger.specs.Ledger.{
-  Case,
-  Ledger,
-  Step,
-  Call,
-  opening,
-  message,
-  draw,
-  last_pair,
-  Last,
-  step,
-  opening_step,
-  message_at,
-  draw_at,
-  last_pair_at,
-  drawn,
-  stage_after,
-  numbers_at,
-  same_numbers,
-  one_opened,
-  one_judged,
-  final,
-}
+use Rattle.ledger.specs.Ledger.{Case, Ledger, Step, Call, opening, message, draw, Last, step, opening_step, message_at, last_pair_at, drawn, stage_after, numbers_at, same_numbers, one_opened, one_judged, final}
 use Rattle.ledger.specs.Rules.{Lists, folded, claim_of, message_of, GoesOn, round, last, Follows}
-use Rattle.ledger.specs.Script.{Challenges, Playable, last_pair_to, rest_of, played}
+use Rattle.ledger.specs.Script.{Playable, last_pair_to, rest_of, played}
 use Rattle.ledger.specs.declared.parts.Message.{Message}
 use Rattle.ledger.specs.declared.parts.Numbers.{Numbers}
 use Rattle.ledger.specs.declared.parts.Page.{Page}

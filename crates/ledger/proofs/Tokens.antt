@@ -1,5 +1,5 @@
 -- The token that was last handed out is the one that the open case is waiting for. Assumes nothing.
-use Rattle.std.proofs.Common.{◌≡◌, ℕ, ◌+◌, Bool, true, false, cond, ◌&&◌, ◌||◌, eqb, ltb, leb, Some, None, Ok, Err, Option, Result, sym, refl, ap, ◌∙◌, ap₂, eq-eqb}
+use Rattle.std.proofs.Common.{◌≡◌, ℕ, ◌+◌, Bool, true, false, cond, ◌&&◌, ◌||◌, eqb, ltb, leb, Some, None, Ok, Err, Option, Result, refl, ap₂, eq-eqb}
 use Rattle.kind.specs.Kinds.{Meaning}
 use Rattle.method.specs.declared.fault.MethodFault.{MethodFault}
 use Rattle.ledger.specs.Ledger.{

@@ -23,7 +23,7 @@ use Rattle.ledger.specs.Ledger.{
   numbers_at,
   run,
 }
-use Rattle.ledger.specs.Promise.{noted, case_from, newer, latest_from, beside, Fair, HonestRecord, Promise}
+use Rattle.ledger.specs.Promise.{noted, case_from, newer, latest_from, beside, HonestRecord, Promise}
 use Rattle.ledger.specs.Rules.{Lists, Follows}
 use Rattle.ledger.specs.declared.fault.StationFault.TheVariants.{NotCurrent}
 use Rattle.ledger.specs.declared.parts.Answer.{Answer}

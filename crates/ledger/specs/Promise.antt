@@ -1,5 +1,5 @@
 -- The promise over a whole run of calls. Assumes nothing.
-use Rattle.std.specs.Prelude.{◌≡◌, ℕ, ◌<◌, ◌≤◌, Bool, true, false, cond, List, [], ◌∷◌, ◌++◌, length, Some, None, Option}
+use Rattle.std.specs.Prelude.{◌≡◌, ◌<◌, ◌≤◌, Bool, true, false, cond, List, [], ◌∷◌, ◌++◌, length, Some, None, Option}
 use Rattle.kind.specs.Kinds.{Meaning, Lawful}
 use Rattle.method.specs.QuickCheck.{QuickCheck}
 use Rattle.ledger.specs.Ledger.{Ledger, Call, opening, message, draw, last_pair, withdrawal, page_turn, Last, run}

@@ -1,5 +1,5 @@
 -- A case played by the rules, with the tokens as they are handed out. Assumes nothing.
-use Rattle.std.specs.Prelude.{◌≡◌, ℕ, ◌+◌, ◌^◌, ◌<◌, ◌≤◌, true, List, [], ◌∷◌, map, length, Some, None, slice_index}
+use Rattle.std.specs.Prelude.{◌≡◌, ℕ, ◌+◌, ◌^◌, ◌<◌, ◌≤◌, true, List, [], ◌∷◌, map, length, None, slice_index}
 use Rattle.kind.specs.Kinds.{Meaning, Lawful}
 use Rattle.ledger.specs.Ledger.{Ledger, Call, opening, message, draw, last_pair, Last, numbers_at, one_opened, one_judged, final}
 use Rattle.ledger.specs.Rules.{Lists, folded, claim_of, message_of, Follows}
