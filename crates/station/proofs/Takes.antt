@@ -1,5 +1,5 @@
 -- A table takes a challenge in range while it has room. Assumes nothing.
-use Rattle.std.proofs.Common.{◌≡◌, ℕ, ◌<◌, Bool, true, false, List, [], ◌∷◌, ◌++◌, length, Ok, Err, Result, sym, ap, ◌∙◌, subst, arith}
+use Rattle.std.proofs.Common.{◌≡◌, ℕ, ◌<◌, false, List, [], ◌∷◌, ◌++◌, length, Ok, Err, Result, sym, ap, ◌∙◌, arith}
 use Rattle.method.specs.Entries.{outside}
 use Rattle.method.specs.Tables.{challenges, listed, table_answer}
 use Rattle.method.specs.declared.fault.MethodFault.{MethodFault}

@@ -29,7 +29,7 @@ running_of None = None
 running_of (Some c) = Some (case_of c)
 
 -- what a station has, but its method
-abbrev pub ledger_of : {M E X : Type 0} → Station M E X → Ledger M
+abbrev pub ledger_of : {M X E : Type 0} {g : _} → Station M X E g → Ledger M
 ledger_of s = record { number = s.number; page = s.page; running = running_of s.case }
 
 -- what a last pair brings; elements and numbers are the lengths of the work lists

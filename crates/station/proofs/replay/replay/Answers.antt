@@ -29,7 +29,7 @@ returns g c =
       rest =
           drop-least c.args.out.now out (length calls) same
           (subst (λ (n : ℕ). drop n out ≡ drop n c.args.out.now) c.least-n.ensures.value inv.1);
-      elements = c.clear-entries.ensures ∙ ap (λ (n : ℕ). replicate n (unit_entry g.K.Kind.meaning)) c.loop-i.auto.elements;
-      numbers = c.clear-numbers.ensures ∙ ap (λ (n : ℕ). replicate n 0) c.loop-i.auto.numbers;
+      elements = c.clear_entries.ensures ∙ ap (λ (n : ℕ). replicate n (unit_entry g.K.Kind.meaning)) c.loop-i.auto.elements;
+      numbers = c.clear_numbers.ensures ∙ ap (λ (n : ℕ). replicate n 0) c.loop-i.auto.numbers;
       method = c.close.ensures ∙ inv.2 ∙ c.new-station.ensures.method;
     }

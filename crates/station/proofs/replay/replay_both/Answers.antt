@@ -1,4 +1,4 @@
-use Rattle.std.proofs.Common.{ℕ, length, replicate, ap, ◌∙◌}
+use Rattle.std.proofs.Common.{ℕ, replicate, ap, ◌∙◌}
 use Rattle.kind.specs.Kinds.{unit_entry}
 use Rattle.station.proofs.Turns.{as_long, alike}
 use Rattle.station.proofs.replay.replay_both.Goals as goal
@@ -15,7 +15,7 @@ returns g c =
       second = second;
       alike = λ same. alike g.K.Kind.meaning _ _ _ _ _ _ same second one.promise;
       rest = one.rest;
-      rest-again = two.rest;
+      rest_again = two.rest;
       elements = two.elements ∙ ap (λ (m : ℕ). replicate m (unit_entry g.K.Kind.meaning)) e;
       numbers = two.numbers ∙ ap (λ (m : ℕ). replicate m 0) n;
       methods = (λ i. (one.method i, two.method i));

@@ -11,6 +11,6 @@ returns g c =
     let counted = c.args.case.counted in
     record {
       answer = told.answer;
-      elements = told.elements ∙ ap (λ (n : ℕ). cleared c.verdict.result (2 ^ n) (unit_entry g.K.Kind.meaning) c.args.«work-elements».now) counted;
-      numbers = told.numbers ∙ ap (λ (n : ℕ). cleared c.verdict.result (2 ^ n) 0 c.args.«work-numbers».now) counted;
+      elements = told.elements ∙ ap (λ (n : ℕ). cleared c.verdict.result (2 ^ n) (unit_entry g.K.Kind.meaning) c.args.«work_elements».now) counted;
+      numbers = told.numbers ∙ ap (λ (n : ℕ). cleared c.verdict.result (2 ^ n) 0 c.args.«work_numbers».now) counted;
     }
