@@ -1,2 +1,4 @@
 // Lines, words and decimal numbers in bytes.
+#![tactic(auto)]
+
 pub mod words;

@@ -5,6 +5,6 @@ use Rattle.std.proofs.lemmas.Bool.Decides.{Decides-eqb}
 
 pub returns : goal.returns
 returns c =
-    let d : Decides c.eq.result (c.args.word.now ≡ c.as-bytes.result.now) = slice_eq-Decides Decides-eqb _ _ _ c.eq.ensures in
+    let d : Decides c.eq.result (c.args.word.now ≡ c.as_bytes.result.now) = slice_eq-Decides Decides-eqb _ _ _ c.eq.ensures in
     let s = bytes_eq-Decides c.args.word.now c.args.text.now in
     search rules

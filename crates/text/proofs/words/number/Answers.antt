@@ -1,4 +1,4 @@
-use Rattle.std.proofs.Common.{◌<◌, length, sym, ◌∙◌, inl, inr, arith}
+use Rattle.std.proofs.Common.{sym, ◌∙◌, inl, inr, arith}
 use Rattle.std.proofs.lemmas.Bool.{eqb-false}
 use Rattle.text.proofs.Values.{valued_more, valued_low, valued_high, valued_large, valued_all}
 use Rattle.text.proofs.words.number.Goals as goal
@@ -12,23 +12,23 @@ returns-then-digit-lt48 c =
       | inr high ↦ valued_high word c.loop-i.n i c.loop-i-test.true high.1 c.loop-i.invariant
     ]
 
-pub returns-in-err-checked-mul : goal.returns-in-err-checked-mul
-returns-in-err-checked-mul c =
-    c.from-residual.ensures
-    ∙ valued_large c.args.word.now c.loop-i.n c.loop-i.i c.loop-i-test.true (omega (arith, c.in-err-checked-mul.ensures)) c.loop-i.invariant
+pub returns-in_err-checked_mul : goal.returns-in_err-checked_mul
+returns-in_err-checked_mul c =
+    c.from_residual.ensures
+    ∙ valued_large c.args.word.now c.loop-i.n c.loop-i.i c.loop-i-test.true (omega (arith, c.in_err-checked_mul.ensures)) c.loop-i.invariant
 
-pub returns-in-err-n : goal.returns-in-err-n
-returns-in-err-n c =
-    c.from-residual-in-err-n.ensures
+pub returns-in_err-n : goal.returns-in_err-n
+returns-in_err-n c =
+    c.from_residual-in_err-n.ensures
     ∙ valued_large c.args.word.now c.loop-i.n c.loop-i.i c.loop-i-test.true
-    (omega (arith, c.in-err-n.ensures, c.in-ok-checked-mul.ensures)) c.loop-i.invariant
+    (omega (arith, c.in_err-n.ensures, c.in_ok-checked_mul.ensures)) c.loop-i.invariant
 
 pub loop-i-preserved : goal.loop-i-preserved
 loop-i-preserved c =
-    valued_more c.args.word.now c.loop-i.n c.in-ok-n.n c.loop-i.i c.loop-i-test.true (omega arith) (omega arith)
-    (omega (arith, c.in-ok-n.ensures, c.in-ok-checked-mul.ensures)) (omega (arith, c.in-ok-n.ensures)) c.loop-i.invariant
+    valued_more c.args.word.now c.loop-i.n c.in_ok-n.n c.loop-i.i c.loop-i-test.true (omega arith) (omega arith)
+    (omega (arith, c.in_ok-n.ensures, c.in_ok-checked_mul.ensures)) (omega (arith, c.in_ok-n.ensures)) c.loop-i.invariant
 
 pub returns : goal.returns
 returns c =
     valued_all c.args.word.now c.loop-i.n c.loop-i.i
-    (omega (arith, eqb-false _ _ (sym c.if-is-empty.ensures))) (omega arith) c.loop-i.invariant
+    (omega (arith, eqb-false _ _ (sym c.if-is_empty.ensures))) (omega arith) c.loop-i.invariant

@@ -14,5 +14,5 @@ returns-then-at-bytes c =
       behind = sym (cond-true _ _ _ (eq-eqb _ _ e));
     }
 
-pub overflow-add-at : goal.overflow-add-at
-overflow-add-at c = omega (arith, count_low c.args.mark c.args.bytes.now)
+pub overflow_add-at : goal.overflow_add-at
+overflow_add-at c = omega (arith, count_low c.args.mark c.args.bytes.now)
