@@ -1,4 +1,6 @@
 // station-replay: a script of calls, one to a line, performed on a station; a line is printed for each.
+#![tactic(auto)]
+
 mod script;
 mod words;
 
