@@ -1,4 +1,6 @@
 // How a caller spends tokens: one case of two rounds, by the station's calls. Three wrong uses of it do not compile; see token-uses.
+#![tactic(auto)]
+
 use kind::kind::Kind;
 use ledger::fault::StationFault;
 use ledger::parts::Message;
