@@ -1,14 +1,13 @@
 -- What is known where a writer's call refuses nothing. Assumes nothing.
-use Rattle.std.proofs.Common.{◌≡◌, ℕ, ◌+◌, ◌/◌, ◌<◌, ◌≤◌, Bool, true, false, ◌||◌, eqb, ltb, List, [], ◌∷◌, length, Ok, Err, Result, sym, refl, subst, arith, ltb-true, eqb-true}
-use Rattle.kind.specs.Faults.{first_of, unless, wrapped}
+use Rattle.std.proofs.Common.{◌≡◌, ℕ, ◌+◌, ◌/◌, ◌<◌, ◌≤◌, Bool, true, false, ◌||◌, eqb, ltb, List, length, Ok, sym, refl, subst, arith, ltb-true, eqb-true}
+use Rattle.kind.specs.Faults.{wrapped}
 use Rattle.kind.specs.Kinds.{Meaning, Lawful, AllElements}
 use Rattle.kind.specs.Products.{entries_refusal}
 use Rattle.kind.proofs.Listed.{all_checked}
 use Rattle.kind.proofs.Steps.{both-went, held, unwrapped}
 use Rattle.method.specs.Meaning.{is_size}
 use Rattle.writer.specs.Ready.{Ready}
-use Rattle.writer.specs.Refusals.{size_refusal, length_refusal, sizes_refused, lengths_refused, length_one_refused, scalars_refusal, content_refused, claim_refused, message_refused, fold_refused}
-use Rattle.writer.specs.declared.fault.WriterFault.{WriterFault}
+use Rattle.writer.specs.Refusals.{size_refusal, length_refusal, sizes_refused, lengths_refused, length_one_refused, content_refused, claim_refused, message_refused, fold_refused}
 use Rattle.writer.specs.declared.fault.WriterFault.TheVariants.{Size, Length, LengthOne, Kind}
 
 either : {P : Type 0} (a b : Bool) → (a || b) ≡ true → (a ≡ true → P) → (b ≡ true → P) → P

@@ -1,5 +1,5 @@
 -- What stands in a list that was folded. Assumes nothing.
-use Rattle.std.proofs.Common.{◌≡◌, ℕ, zero, suc, ◌+◌, List, [], ◌∷◌, ◌++◌, map, length, take, replicate, sym, refl, ap, ◌∙◌, subst, ap₂}
+use Rattle.std.proofs.Common.{◌≡◌, ℕ, zero, suc, ◌+◌, List, ◌∷◌, ◌++◌, map, length, take, replicate, sym, refl, ap, ◌∙◌, subst, ap₂}
 use Rattle.std.proofs.lemmas.List.{take_at, length-map}
 use Rattle.kind.specs.Kinds.{Meaning, Lawful, elements, unit_entry, AllElements}
 use Rattle.kind.specs.Sides.{fold_by, fold_pair, fold_of}

@@ -1,5 +1,5 @@
 -- How long the parts of a record are. Assumes nothing.
-use Rattle.std.proofs.Common.{◌≡◌, ℕ, suc, ◌+◌, ◌*◌, List, [], ◌∷◌, ◌++◌, length, sym, refl, ap, ◌∙◌, suc-mul, arith, length-append}
+use Rattle.std.proofs.Common.{◌≡◌, ℕ, suc, ◌+◌, ◌*◌, List, [], ◌∷◌, ◌++◌, length, refl, ap, ◌∙◌, suc-mul, arith, length-append}
 use Rattle.kind.specs.Bytes.{Writing, WellWritten}
 use Rattle.kind.specs.Kinds.{Meaning}
 use Rattle.kind.specs.declared.pair.Pair.{Pair}

@@ -1,5 +1,5 @@
 -- A list looked over by one layer, and told of by another. Assumes nothing.
-use Rattle.std.proofs.Common.{◌≡◌, ℕ, ◌+◌, Bool, true, false, cond, List, [], ◌∷◌, Ok, Err, Result, refl, ap, ◌∙◌}
+use Rattle.std.proofs.Common.{◌≡◌, ℕ, ◌+◌, Bool, true, false, cond, List, [], ◌∷◌, Ok, Err, Result, refl}
 use Rattle.kind.specs.Faults.{first_bad}
 
 -- a fault told anew

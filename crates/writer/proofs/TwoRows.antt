@@ -1,7 +1,7 @@
 -- Two lists in one, lent one after the other. Assumes nothing.
-use Rattle.std.proofs.Common.{◌≡◌, ℕ, zero, suc, ◌+◌, ◌-◌, ◌≤◌, List, [], ◌∷◌, ◌++◌, length, take, drop, sym, refl, ap, ◌∙◌, subst, ap₂, append_assoc, append-nil, arith, length-append, length-drop}
+use Rattle.std.proofs.Common.{◌≡◌, ℕ, ◌+◌, ◌-◌, ◌≤◌, List, ◌++◌, length, take, drop, sym, ap, ◌∙◌, ap₂, append-nil, arith, length-append, length-drop}
 use borrow.Rule.Slice.PartMut.{put_mid, post_of}
-use Rattle.std.proofs.lemmas.List.{take_at, drop_at, drop_all, take_all, take-take, take-append-le, drop-drop, length-take-le}
+use Rattle.std.proofs.lemmas.List.{take_at, drop_at, drop_all, take-take, take-append-le, drop-drop, length-take-le}
 
 module _ {A : Type 0} where
   -- both lent whole: a list in front is a now, and the one behind it is b

@@ -1,5 +1,4 @@
 -- What each of the writer's faults tells. Assumes nothing.
-use Rattle.std.specs.Prelude.{ℕ}
 use Rattle.kind.specs.Faults.{refusal_of, kind_refusal}
 use Rattle.kind.specs.declared.fault.Layer.TheVariants as layer
 use Rattle.kind.specs.declared.fault.Refusal.{Refusal}

@@ -1,4 +1,6 @@
 // A writer of proofs: claims, messages and folds of two lists of scalars.
+#![tactic(auto)]
+
 pub mod admit;
 pub mod calls;
 mod commitments;

@@ -1,4 +1,4 @@
-use Rattle.std.proofs.Common.{◌≡◌, leb, Ok, Err, sym, ap, ◌∙◌}
+use Rattle.std.proofs.Common.{leb, Err, sym, ap, ◌∙◌}
 use Rattle.kind.specs.Faults.{kind_refusal}
 use Rattle.kind.specs.declared.fault.KindFault.{KindFault}
 use Rattle.kind.specs.declared.fault.KindFault.TheVariants.{NotAScalar}
@@ -13,11 +13,11 @@ own fault = writer.NotAScalar (kind_refusal fault).place
 
 pub returns-in-Ok : goal.returns-in-Ok
 returns-in-Ok g c =
-    ap (retold own) (sym c.in-Ok.is ∙ c.check-scalars.ensures)
+    ap (retold own) (sym c.in-Ok.is ∙ c.check_scalars.ensures)
     ∙ first-retold own (leb g.K.Kind.meaning.order) NotAScalar 0 c.args.xs.now
 
 pub returns-in-Err : goal.returns-in-Err
 returns-in-Err g c =
     ap (λ (r : Refusal). Err (writer.NotAScalar r.place)) c.refusal.ensures
-    ∙ ap (retold own) (sym c.in-Err.is ∙ c.check-scalars.ensures)
+    ∙ ap (retold own) (sym c.in-Err.is ∙ c.check_scalars.ensures)
     ∙ first-retold own (leb g.K.Kind.meaning.order) NotAScalar 0 c.args.xs.now

@@ -12,10 +12,10 @@ returns g c =
     let xs = c.args.xs.now in
     let n : ℕ = length xs in
     let m : ℕ = n / 2 in
-    let ws = c.fold-within.new.work in
+    let ws = c.fold_within.new.work in
     let even : m + m ≡ n = c.requires.even in
     let all : take (m + m) (elements s xs) ≡ elements s xs = take_all (m + m) (elements s xs) (omega (arith, length-elements s xs)) in
     let front : take m ws ≡ map s.entry (fold_of s c.args.side c.args.c (elements s xs)) =
-    ap (take m) (sym c.fold-within.ensures.checked) ∙ sym (map-take s.entry m (elements s ws))
-    ∙ ap (map s.entry) (c.fold-within.ensures.folded ∙ ap (fold_of s c.args.side c.args.c) all) in
-    cleared-half n m ws _ c.clear-entries.new.entries (unit_entry s) (omega arith) even front c.clear-entries.ensures
+    ap (take m) (sym c.fold_within.ensures.checked) ∙ sym (map-take s.entry m (elements s ws))
+    ∙ ap (map s.entry) (c.fold_within.ensures.folded ∙ ap (fold_of s c.args.side c.args.c) all) in
+    cleared-half n m ws _ c.clear_entries.new.entries (unit_entry s) (omega arith) even front c.clear_entries.ensures

@@ -12,5 +12,5 @@ returns g c =
     let m : ℕ = n / 2 in
     let even : m + m ≡ n = c.requires in
     let all : take (m + m) xs ≡ xs = take_all (m + m) xs (omega arith) in
-    cleared-half n m c.fold-scalars-within.new.xs _ c.clear-numbers.new.numbers 0 (omega arith) even
-    (c.fold-scalars-within.ensures ∙ ap (folds_scalars q c.args.side c.args.c) all) c.clear-numbers.ensures
+    cleared-half n m c.fold_scalars_within.new.xs _ c.clear_numbers.new.numbers 0 (omega arith) even
+    (c.fold_scalars_within.ensures ∙ ap (folds_scalars q c.args.side c.args.c) all) c.clear_numbers.ensures

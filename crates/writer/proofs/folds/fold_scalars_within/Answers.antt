@@ -1,4 +1,4 @@
-use Rattle.std.proofs.Common.{◌≡◌, ℕ, ◌+◌, ◌<◌, ◌≤◌, List, ◌++◌, length, get_or, take, drop, set, sym, refl, ap, ◌∙◌, arith}
+use Rattle.std.proofs.Common.{◌≡◌, ℕ, ◌+◌, ◌<◌, ◌≤◌, List, length, get_or, take, drop, set, sym, ap, ◌∙◌, arith}
 use Rattle.std.proofs.lemmas.List.{get_or-take, take_at, take_all, length-take-le}
 use Rattle.kind.specs.Sides.{fold_by}
 use Rattle.kind.proofs.Foldings.{over_more, over_rest, length-fold, fold_is}
@@ -19,9 +19,9 @@ loop-i-preserved g c =
     let n = length-fold f m xs two in
     let at : (j : ℕ) → i ≤ j → j < m + m → get_or work j 0 ≡ get_or xs j 0 =
     λ j low high. ap (λ l. get_or l j 0) c.loop-i.invariant ∙ over_rest fs ws i j 0 (omega arith) low ∙ sym (get_or-take (m + m) ws j 0 high) in
-    let v = c.fold-scalar-pair.result in
+    let v = c.fold_scalar_pair.result in
     let is = fold_is f m i xs (get_or work i 0) (get_or work (m + i) 0) v 0 v
-    two (omega arith) (at i (omega arith) (omega arith)) (at (m + i) (omega arith) (omega arith)) c.fold-scalar-pair.ensures in
+    two (omega arith) (at i (omega arith) (omega arith)) (at (m + i) (omega arith) (omega arith)) c.fold_scalar_pair.ensures in
     ap (λ l. set l i v) c.loop-i.invariant ∙ over_more fs ws i v (omega arith) (omega arith) is
 
 pub returns : goal.returns

@@ -1,13 +1,11 @@
-use Rattle.std.proofs.Common.{◌≡◌, ℕ, ◌+◌, ◌/◌, length, take, drop, sym, ap, ◌∙◌, subst, ap₂, arith, length-drop}
-use Rattle.std.proofs.lemmas.List.{length-take-le}
-use Rattle.protocol.specs.Halving.{first_half, last_half, claim1, claim2}
-use Rattle.kind.specs.Kinds.{elements, AllElements}
-use Rattle.kind.proofs.Listed.{length-elements}
-use Rattle.writer.proofs.ListParts.{elements-take, elements-drop, all_take, all_drop, half-first, half-last, entries_first, entries_last, long_first, long_last}
+use Rattle.std.proofs.Common.{ℕ, ◌/◌, length, sym, ◌∙◌, subst, arith}
+use Rattle.protocol.specs.Halving.{claim1, claim2}
+use Rattle.kind.specs.Kinds.{AllElements}
+use Rattle.writer.proofs.ListParts.{all_take, all_drop, half-first, half-last, entries_first, entries_last, long_first, long_last}
 use Rattle.writer.proofs.halves.message_across.Goals as goal
 
-pub join-powers-l1-requires : goal.join-powers-l1-requires
-join-powers-l1-requires g c =
+pub join_powers-l1-requires : goal.join_powers-l1-requires
+join_powers-l1-requires g c =
     let p = c.requires.ready in
     let m : ℕ = length c.args.g.now / 2 in
     let even = c.requires.even in
@@ -17,8 +15,8 @@ join-powers-l1-requires g c =
           ∙ sym (long_first m c.args.g.now _ c.cut.ensures.front (omega arith));
     }
 
-pub commit-second-l2-requires : goal.commit-second-l2-requires
-commit-second-l2-requires g c =
+pub commit_second-l2-requires : goal.commit_second-l2-requires
+commit_second-l2-requires g c =
     let p = c.requires.ready in
     let m : ℕ = length c.args.g.now / 2 in
     let even = c.requires.even in
@@ -30,8 +28,8 @@ commit-second-l2-requires g c =
           ∙ sym (long_last m c.args.l.now _ c.cut-3.ensures.back (omega (arith, p.long_l)));
     }
 
-pub join-powers-r1-requires : goal.join-powers-r1-requires
-join-powers-r1-requires g c =
+pub join_powers-r1-requires : goal.join_powers-r1-requires
+join_powers-r1-requires g c =
     let p = c.requires.ready in
     let m : ℕ = length c.args.g.now / 2 in
     let even = c.requires.even in
@@ -41,8 +39,8 @@ join-powers-r1-requires g c =
           ∙ sym (long_last m c.args.g.now _ c.cut.ensures.back (omega arith));
     }
 
-pub commit-second-r2-requires : goal.commit-second-r2-requires
-commit-second-r2-requires g c =
+pub commit_second-r2-requires : goal.commit_second-r2-requires
+commit_second-r2-requires g c =
     let p = c.requires.ready in
     let m : ℕ = length c.args.g.now / 2 in
     let even = c.requires.even in
@@ -70,8 +68,8 @@ returns g c =
     let lb = half-last m c.args.l.now _ c.cut-3.ensures.back (omega (arith, p.long_l)) in
     let ra = half-first m c.args.r.now _ c.cut-4.ensures.front (omega (arith, p.long_r)) in
     let rb = half-last m c.args.r.now _ c.cut-4.ensures.back (omega (arith, p.long_r)) in
-    let l1 = c.join-powers-l1.ensures ∙ (λ i. claim1 q o (ga i) (lb i)) in
-    let l2 = c.commit-second-l2.ensures ∙ (λ i. claim2 q o k (hb i) (lb i) (ra i)) in
-    let r1 = c.join-powers-r1.ensures ∙ (λ i. claim1 q o (gb i) (la i)) in
-    let r2 = c.commit-second-r2.ensures ∙ (λ i. claim2 q o k (ha i) (la i) (rb i)) in
+    let l1 = c.join_powers-l1.ensures ∙ (λ i. claim1 q o (ga i) (lb i)) in
+    let l2 = c.commit_second-l2.ensures ∙ (λ i. claim2 q o k (hb i) (lb i) (ra i)) in
+    let r1 = c.join_powers-r1.ensures ∙ (λ i. claim1 q o (gb i) (la i)) in
+    let r2 = c.commit_second-r2.ensures ∙ (λ i. claim2 q o k (ha i) (la i) (rb i)) in
     λ i. record { l1 = l1 i; l2 = l2 i; r1 = r1 i; r2 = r2 i }

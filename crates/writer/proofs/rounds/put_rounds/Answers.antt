@@ -1,4 +1,4 @@
-use Rattle.std.proofs.Common.{◌≡◌, ℕ, ◌+◌, ◌-◌, ◌*◌, ◌/◌, ◌^◌, ◌<◌, ◌≤◌, List, length, sym, refl, ap, ◌∙◌, arith}
+use Rattle.std.proofs.Common.{◌≡◌, ℕ, ◌-◌, ◌/◌, ◌^◌, List, length, sym, refl, ap, ◌∙◌, arith}
 use Rattle.writer.specs.Rows.{lists_in}
 use Rattle.writer.proofs.Lengths.{rest_of_long}
 use Rattle.writer.proofs.Underway.{underway_room, underway_more, last_room, underway_end}
@@ -20,8 +20,8 @@ loop-i-init g c =
       rest = refl;
     }
 
-pub play-round-at-requires : goal.play-round-at-requires
-play-round-at-requires g c =
+pub play_round-at-requires : goal.play_round-at-requires
+play_round-at-requires g c =
     let inv = c.loop-i.invariant in
     let m : ℕ = c.loop-i.m in
     record {
@@ -35,14 +35,14 @@ play-round-at-requires g c =
 pub loop-i-preserved : goal.loop-i-preserved
 loop-i-preserved g c =
     underway_more g.K.Kind.meaning g.K.WrittenKind.writing c.args.key c.args.cs.now c.args.n c.loop-i.invariant (omega arith)
-    (c.loop-i.m / 2) c.play-round-at.result c.play-round-at.new.elements c.play-round-at.new.numbers c.play-round-at.new.out
-    refl c.play-round-at.ensures.checked c.play-round-at.ensures.folded c.play-round-at.ensures.laid
+    (c.loop-i.m / 2) c.play_round-at.result c.play_round-at.new.elements c.play_round-at.new.numbers c.play_round-at.new.out
+    refl c.play_round-at.ensures.checked c.play_round-at.ensures.folded c.play_round-at.ensures.laid
 
-pub put-last-requires : goal.put-last-requires
-put-last-requires g c =
+pub put_last-requires : goal.put_last-requires
+put_last-requires g c =
     last_room g.K.Kind.meaning g.K.WrittenKind.writing c.args.key c.args.cs.now c.args.n c.loop-i.invariant (omega arith)
 
 pub returns : goal.returns
 returns g c =
     underway_end g.K.Kind.meaning g.K.WrittenKind.writing c.args.key c.args.cs.now c.args.n c.loop-i.invariant (omega arith) (omega arith)
-    c.put-last.result c.put-last.new.out c.put-last.ensures
+    c.put_last.result c.put_last.new.out c.put_last.ensures

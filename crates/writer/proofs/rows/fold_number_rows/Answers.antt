@@ -1,4 +1,4 @@
-use Rattle.std.proofs.Common.{◌≡◌, ℕ, ◌+◌, ◌-◌, ◌≤◌, List, length, take, drop, sym, ap, ◌∙◌, arith, length-drop}
+use Rattle.std.proofs.Common.{◌≡◌, ℕ, ◌+◌, ◌-◌, List, length, take, drop, ap, ◌∙◌, arith, length-drop}
 use Rattle.std.proofs.lemmas.List.{length-take-le}
 use Rattle.kind.specs.declared.side.Side.TheVariants.{OfG, OfH}
 use Rattle.writer.specs.Folds.{fold_scalars, folds_scalars}
@@ -14,8 +14,8 @@ returns g c =
     let j : ℕ = m + m in
     let ch : ℕ = c.args.c in
     let xs : List ℕ = c.args.work.now in
-    let a : List ℕ = c.fold-scalars.new.xs in
-    let b : List ℕ = c.fold-scalars-2.new.xs in
+    let a : List ℕ = c.fold_scalars.new.xs in
+    let b : List ℕ = c.fold_scalars-2.new.xs in
     let long = c.requires.long in
     let rows = c.requires.rows in
     let one = length-take-le (j - 0) xs (omega arith) in
@@ -30,7 +30,7 @@ returns g c =
     let whole-a : length ys ≡ m + m = omega arith in
     record {
       l = front-is n j xs a long rows la b lb m (omega arith)
-          ∙ fold-front (fold_scalars q OfG ch) m ys a _ whole-a c.fold-scalars.ensures ∙ ap (folds_scalars q OfG ch) first;
+          ∙ fold-front (fold_scalars q OfG ch) m ys a _ whole-a c.fold_scalars.ensures ∙ ap (folds_scalars q OfG ch) first;
       r = back_is n j xs a long rows la b lb m (omega arith)
-          ∙ fold-front (fold_scalars q OfH ch) m zs b _ two c.fold-scalars-2.ensures ∙ ap (folds_scalars q OfH ch) second;
+          ∙ fold-front (fold_scalars q OfH ch) m zs b _ two c.fold_scalars-2.ensures ∙ ap (folds_scalars q OfH ch) second;
     }

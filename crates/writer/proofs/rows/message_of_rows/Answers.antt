@@ -1,12 +1,12 @@
-use Rattle.std.proofs.Common.{◌≡◌, ℕ, ◌+◌, ◌/◌, List, length, take, drop, sym, ap, ◌∙◌, subst, arith, length-drop}
+use Rattle.std.proofs.Common.{ℕ, ◌+◌, List, length, take, drop, sym, ap, ◌∙◌, subst, arith, length-drop}
 use Rattle.std.proofs.lemmas.List.{length-take-le}
 use Rattle.kind.specs.Kinds.{elements, AllElements}
 use Rattle.ledger.specs.Rules.{message_of}
 use Rattle.writer.proofs.ListParts.{elements-take, elements-drop, all_take, all_drop}
 use Rattle.writer.proofs.rows.message_of_rows.Goals as goal
 
-pub message-across-requires : goal.message-across-requires
-message-across-requires g c =
+pub message_across-requires : goal.message_across-requires
+message_across-requires g c =
     let s = g.K.Kind.meaning in
     let es = c.args.elements.now in
     let ns : List ℕ = c.args.numbers.now in
@@ -42,4 +42,4 @@ returns g c =
     let hs = ap (elements s) (c.cut-4.ensures.front ∙ ap (take j) c.cut.ensures.back) ∙ elements-take s j (drop n es) ∙ ap (take j) (elements-drop s n es) in
     let l = c.cut-5.ensures.front in
     let r = c.cut-6.ensures.front ∙ ap (take j) c.cut-2.ensures.back in
-    c.message-across.ensures ∙ (λ i. message_of s c.args.key (record { gs = gs i; hs = hs i; l = l i; r = r i }))
+    c.message_across.ensures ∙ (λ i. message_of s c.args.key (record { gs = gs i; hs = hs i; l = l i; r = r i }))
