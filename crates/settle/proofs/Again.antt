@@ -1,5 +1,5 @@
 -- Work lists that are cleared twice, and refusals that two calls share. Assumes nothing.
-use Rattle.std.proofs.Common.{◌≡◌, ℕ, ◌+◌, List, ◌++◌, length, drop, replicate, Ok, Err, Result, sym, ap, ◌∙◌, append_assoc}
+use Rattle.std.proofs.Common.{◌≡◌, ℕ, ◌+◌, List, ◌++◌, drop, replicate, Ok, Err, Result, sym, ap, ◌∙◌, append_assoc}
 use lib.ListN.{length-replicate}
 use Rattle.std.proofs.lemmas.List.{drop_at, replicate-append-replicate}
 use Rattle.kind.specs.Faults.{and_then}

@@ -1,5 +1,5 @@
 -- The record of lists and challenges that can be played is passed. Assumes nothing.
-use Rattle.std.proofs.Common.{◌≡◌, ℕ, suc, ◌<◌, ◌≤◌, true, ◌&&◌, List, [], ◌∷◌, length, Ok, sym, refl, ap, ◌∙◌, subst, ap₂, mod-eq_of_lt, arith}
+use Rattle.std.proofs.Common.{◌≡◌, ℕ, ◌<◌, ◌≤◌, true, ◌&&◌, List, [], ◌∷◌, length, Ok, sym, refl, ap, ◌∙◌, subst, ap₂, mod-eq_of_lt, arith}
 use Rattle.protocol.proofs.Claims.{complete}
 use Rattle.protocol.specs.Halving.{FoldedPasses, LastPasses, rounds}
 use Rattle.kind.proofs.Steps.{went}

@@ -21,8 +21,8 @@ cleared v x n xs e = ap (λ (m : ℕ). replicate m x) e ∙ ap (λ (b : Result A
 untouched : {A : Type 0} {a : Answer} {why : StationFault} → a ≡ Refused why → (x y : A) → y ≡ if_judged {F = WriterFault} (Ok a) x y
 untouched is x y = ap (λ (b : Answer). if_judged {F = WriterFault} (Ok b) x y) (sym is)
 
-pub open-case-requires : goal.open-case-requires
-open-case-requires g c =
+pub open_case-requires : goal.open_case-requires
+open_case-requires g c =
     claim-free g.K.Kind.meaning g.K.Kind.laws c.args.g.now c.args.h.now c.args.l.now c.args.r.now c.args.cs.now
     c.requires.ready.all_g c.requires.ready.all_h c.requires.playable
 
@@ -40,34 +40,34 @@ returns-in-Token g c =
     let l0 = ledger_of c.args.station.now in
     let z = claim_of s key (lists_of s gs hs l r) in
     let first = step s l0 (opening (length cs) z) in
-    let was = c.in-ok-opened.was in
+    let was = c.in_ok-opened.was in
     let is = c.in-Token.is in
-    let answer = c.open-case.ensures.answer in
+    let answer = c.open_case.ensures.answer in
     let given : first.answer ≡ Token c.in-Token.field-0 t = cc in
     let well = goes_well s g.K.Kind.laws l0 gs hs key l r cs c.requires.playable c.in-Token.field-0 t given in
-    let told = c.play-rounds.ensures in
-    let begin = c.open-case.ensures.ledger in
-    let fl = c.copy-from-slice-in-Token-2.ensures.after in
-    let fr = c.copy-from-slice-in-Token-3.ensures.after in
-    let long_g = ap length c.copy-from-slice.ensures.after ∙ sym c.requires.room_g in
-    let long_h = ap length c.copy-from-slice-in-Token.ensures.after ∙ c.requires.ready.long_h ∙ sym c.requires.room_h in
+    let told = c.play_rounds.ensures in
+    let begin = c.open_case.ensures.ledger in
+    let fl = c.copy_from_slice-in-Token-2.ensures.after in
+    let fr = c.copy_from_slice-in-Token-3.ensures.after in
+    let long_g = ap length c.copy_from_slice.ensures.after ∙ sym c.requires.room_g in
+    let long_h = ap length c.copy_from_slice-in-Token.ensures.after ∙ c.requires.ready.long_h ∙ sym c.requires.room_h in
     let long_l = ap length fl ∙ c.requires.ready.long_l ∙ sym c.requires.room_l in
     let long_r = ap length fr ∙ c.requires.ready.long_r ∙ sym c.requires.room_r in
-    let verdict : c.play-rounds.result ≡ Ok (Verdict true) =
+    let verdict : c.play_rounds.result ≡ Ok (Verdict true) =
     told.answer ∙ (λ i. Ok (last_answer s (begin i) Withdrawn (calls_after s t gs hs key (fl i) (fr i) cs))) ∙ ap (λ (a : Answer). Ok a) well.passes in
     record {
       answer = verdict ∙ ap (λ (a : Answer). Ok (passed_if_opened a)) (sym given);
       ledger = told.ledger ∙ (λ i. final s (begin i) (calls_after s t gs hs key (fl i) (fr i) cs)) ∙ well.calls
           ∙ ap (λ (x : Result Answer WriterFault). if_judged x (final s l0 (calls_from s l0 gs hs key l r cs)) l0) (sym verdict);
-      kept = told.kept ∙ c.open-case.ensures.kept;
+      kept = told.kept ∙ c.open_case.ensures.kept;
       g = told.g verdict ∙ cleared verdict u _ c.args.fold_g.now long_g;
       h = told.h verdict ∙ cleared verdict u _ c.args.fold_h.now long_h;
       l = told.l verdict ∙ cleared verdict 0 _ c.args.fold_l.now long_l;
       r = told.r verdict ∙ cleared verdict 0 _ c.args.fold_r.now long_r;
     }
 
-pub returns-in-default : goal.returns-in-default
-returns-in-default g c =
+pub returns-in_default : goal.returns-in_default
+returns-in_default g c =
     let s = g.K.Kind.meaning in
     let u = unit_entry s in
     let gs = c.args.g.now in
@@ -79,12 +79,12 @@ returns-in-default g c =
     let l0 = ledger_of c.args.station.now in
     let z = claim_of s key (lists_of s gs hs l r) in
     let first = step s l0 (opening (length cs) z) in
-    let a = c.in-ok-opened.opened in
-    let was = c.in-ok-opened.was in
-    let told = c.open-case.ensures in
+    let a = c.in_ok-opened.opened in
+    let was = c.in_ok-opened.was in
+    let told = c.open_case.ensures in
     let answer = told.answer in
     let given : first.answer ≡ a = cc in
-    let shut = none_given l0 (length cs) z (λ sort t e. c.in-default.not-Token sort t (sym given ∙ e)) in
+    let shut = none_given l0 (length cs) z (λ sort t e. c.in_default.not-Token sort t (sym given ∙ e)) in
     let is : a ≡ Refused shut.0 = sym given ∙ ap (λ (o : Step _). o.answer) shut.1 in
     record {
       answer = ap (λ (b : Answer). Ok b) is ∙ ap (λ (o : Step _). Ok (passed_if_opened o.answer)) (sym shut.1);

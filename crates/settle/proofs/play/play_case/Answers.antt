@@ -27,42 +27,42 @@ lent (Ok (Turned p)) xs ys n u room is = part_same xs ys (n - 0) is
 lent (Ok (Refused why)) xs ys n u room is = part_same xs ys (n - 0) is
 lent (Err why) xs ys n u room is = part_same xs ys (n - 0) is
 
-pub slice-bounds-play-admitted-end : goal.slice-bounds-play-admitted-end
-slice-bounds-play-admitted-end g c =
-    let e = sym c.admit-play.ensures ∙ c.in-ok-admit-play.was in
+pub slice_bounds-play_admitted-end : goal.slice_bounds-play_admitted-end
+slice_bounds-play_admitted-end g c =
+    let e = sym c.admit_play.ensures ∙ c.in_ok-admit_play.was in
     let a = free g.K.Kind.meaning g.K.Kind.laws c.args.g.now c.args.h.now c.args.l.now c.args.r.now c.args.challenges.now
     (length c.args.fold_g.now) (length c.args.fold_h.now) (length c.args.fold_l.now) (length c.args.fold_r.now) e in
     let fits = a.roomy.room_g in
     search rules
 
-pub slice-bounds-play-admitted-end-2 : goal.slice-bounds-play-admitted-end-2
-slice-bounds-play-admitted-end-2 g c =
-    let e = sym c.admit-play.ensures ∙ c.in-ok-admit-play.was in
+pub slice_bounds-play_admitted-end-2 : goal.slice_bounds-play_admitted-end-2
+slice_bounds-play_admitted-end-2 g c =
+    let e = sym c.admit_play.ensures ∙ c.in_ok-admit_play.was in
     let a = free g.K.Kind.meaning g.K.Kind.laws c.args.g.now c.args.h.now c.args.l.now c.args.r.now c.args.challenges.now
     (length c.args.fold_g.now) (length c.args.fold_h.now) (length c.args.fold_l.now) (length c.args.fold_r.now) e in
     let fits = a.roomy.room_h in
     search rules
 
-pub slice-bounds-play-admitted-end-3 : goal.slice-bounds-play-admitted-end-3
-slice-bounds-play-admitted-end-3 g c =
-    let e = sym c.admit-play.ensures ∙ c.in-ok-admit-play.was in
+pub slice_bounds-play_admitted-end-3 : goal.slice_bounds-play_admitted-end-3
+slice_bounds-play_admitted-end-3 g c =
+    let e = sym c.admit_play.ensures ∙ c.in_ok-admit_play.was in
     let a = free g.K.Kind.meaning g.K.Kind.laws c.args.g.now c.args.h.now c.args.l.now c.args.r.now c.args.challenges.now
     (length c.args.fold_g.now) (length c.args.fold_h.now) (length c.args.fold_l.now) (length c.args.fold_r.now) e in
     let fits = a.roomy.room_l in
     search rules
 
-pub slice-bounds-play-admitted-end-4 : goal.slice-bounds-play-admitted-end-4
-slice-bounds-play-admitted-end-4 g c =
-    let e = sym c.admit-play.ensures ∙ c.in-ok-admit-play.was in
+pub slice_bounds-play_admitted-end-4 : goal.slice_bounds-play_admitted-end-4
+slice_bounds-play_admitted-end-4 g c =
+    let e = sym c.admit_play.ensures ∙ c.in_ok-admit_play.was in
     let a = free g.K.Kind.meaning g.K.Kind.laws c.args.g.now c.args.h.now c.args.l.now c.args.r.now c.args.challenges.now
     (length c.args.fold_g.now) (length c.args.fold_h.now) (length c.args.fold_l.now) (length c.args.fold_r.now) e in
     let fits = a.roomy.room_r in
     search rules
 
-pub play-admitted-requires : goal.play-admitted-requires
-play-admitted-requires g c =
+pub play_admitted-requires : goal.play_admitted-requires
+play_admitted-requires g c =
     let n : ℕ = length c.args.g.now in
-    let e = sym c.admit-play.ensures ∙ c.in-ok-admit-play.was in
+    let e = sym c.admit_play.ensures ∙ c.in_ok-admit_play.was in
     let a = free g.K.Kind.meaning g.K.Kind.laws c.args.g.now c.args.h.now c.args.l.now c.args.r.now c.args.challenges.now
     (length c.args.fold_g.now) (length c.args.fold_h.now) (length c.args.fold_l.now) (length c.args.fold_r.now) e in
     record {
@@ -80,12 +80,12 @@ returns g c =
     let u = unit_entry s in
     let n : ℕ = length c.args.g.now in
     let l0 = ledger_of c.args.station.now in
-    let e = sym c.admit-play.ensures ∙ c.in-ok-admit-play.was in
+    let e = sym c.admit_play.ensures ∙ c.in_ok-admit_play.was in
     let a = free g.K.Kind.meaning g.K.Kind.laws c.args.g.now c.args.h.now c.args.l.now c.args.r.now c.args.challenges.now
     (length c.args.fold_g.now) (length c.args.fold_h.now) (length c.args.fold_l.now) (length c.args.fold_r.now) e in
-    let told = c.play-admitted.ensures in
-    let last = c.play-admitted.new in
-    let x = c.play-admitted.result in
+    let told = c.play_admitted.ensures in
+    let last = c.play_admitted.new in
+    let x = c.play_admitted.result in
     let first = opening_answer s l0 c.args.g.now c.args.h.now c.args.key c.args.l.now c.args.r.now c.args.challenges.now in
     let after = final s l0 (calls_from s l0 c.args.g.now c.args.h.now c.args.key c.args.l.now c.args.r.now c.args.challenges.now) in
     let answer = told.answer in

@@ -11,15 +11,15 @@ use Rattle.writer.specs.Answers.{lists_of, halved}
 use Rattle.writer.specs.Refusals.{message_refused, fold_refused}
 use Rattle.settle.proofs.play.play_round.Goals as goal
 
-pub returns-in-err-sent : goal.returns-in-err-sent
-returns-in-err-sent g c =
+pub returns-in_err-sent : goal.returns-in_err-sent
+returns-in_err-sent g c =
     let s = g.K.Kind.meaning in
     let gs = c.args.g.now in
     let hs = c.args.h.now in
     let l : List ℕ = c.args.l.now in
     let r : List ℕ = c.args.r.now in
     let free = (both-went (message_refused s gs hs l r) _ tt c.requires).1 in
-    let was = c.in-err-sent.was in
+    let was = c.in_err-sent.was in
     let is = c.message.ensures ∙ went (message_refused s gs hs l r) _ tt _ free refl in
     absurd (let z : ◌≡◌ {A = ℕ} 0 1 = cc in omega arith)
 
@@ -35,12 +35,12 @@ returns g c =
     let t = c.args.token in
     let start = ledger_of c.args.station.now in
     let free = (both-went (message_refused s gs hs l r) _ tt c.requires).1 in
-    let was = c.in-ok-sent.was in
+    let was = c.in_ok-sent.was in
     let is = c.message.ensures ∙ went (message_refused s gs hs l r) _ tt _ free refl in
-    let sent_is : c.in-ok-sent.sent ≡ message_of s key x = cc in
+    let sent_is : c.in_ok-sent.sent ≡ message_of s key x = cc in
     let ch : ℕ = c.args.c in
-    let one = c.message-call-telling.ensures in
-    let two : c.draw-call-drawing.result ≡ Draw Heard t ch = c.draw-call-drawing.ensures in
+    let one = c.message_call-telling.ensures in
+    let two : c.draw_call-drawing.result ≡ Draw Heard t ch = c.draw_call-drawing.ensures in
     let a = c.perform.ensures in
     let b = c.perform-2.ensures in
     let f = c.fold.ensures in

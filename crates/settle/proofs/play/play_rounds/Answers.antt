@@ -21,34 +21,34 @@ loop-i-init g c =
     c.requires.ready c.requires.playable c.args.fold_g.now c.args.fold_h.now c.requires.g c.requires.h (ledger_of c.args.station.now) in
     (start, refl)
 
-pub slice-bounds-play-round-end : goal.slice-bounds-play-round-end
-slice-bounds-play-round-end g c =
+pub slice_bounds-play_round-end : goal.slice_bounds-play_round-end
+slice_bounds-play_round-end g c =
     let within = c.loop-i.invariant.0.within in
     let long = ap length c.requires.g in
     let fits : c.loop-i.m ≤ length c.loop-i.fold_g = omega arith in
     search rules
 
-pub slice-bounds-play-round-end-in-loop-i : goal.slice-bounds-play-round-end-in-loop-i
-slice-bounds-play-round-end-in-loop-i g c =
+pub slice_bounds-play_round-end-in-loop-i : goal.slice_bounds-play_round-end-in-loop-i
+slice_bounds-play_round-end-in-loop-i g c =
     let within = c.loop-i.invariant.0.within in
     let long = ap length c.requires.h in
     let fits : c.loop-i.m ≤ length c.loop-i.fold_h = omega (arith, c.requires.ready.long_h) in
     search rules
 
-pub slice-bounds-play-round-end-in-loop-i-2 : goal.slice-bounds-play-round-end-in-loop-i-2
-slice-bounds-play-round-end-in-loop-i-2 g c =
+pub slice_bounds-play_round-end-in-loop-i-2 : goal.slice_bounds-play_round-end-in-loop-i-2
+slice_bounds-play_round-end-in-loop-i-2 g c =
     let within = c.loop-i.invariant.0.within in
     let fits : c.loop-i.m ≤ length c.loop-i.fold_l = omega (arith, c.requires.ready.long_l) in
     search rules
 
-pub slice-bounds-play-round-end-in-loop-i-3 : goal.slice-bounds-play-round-end-in-loop-i-3
-slice-bounds-play-round-end-in-loop-i-3 g c =
+pub slice_bounds-play_round-end-in-loop-i-3 : goal.slice_bounds-play_round-end-in-loop-i-3
+slice_bounds-play_round-end-in-loop-i-3 g c =
     let within = c.loop-i.invariant.0.within in
     let fits : c.loop-i.m ≤ length c.loop-i.fold_r = omega (arith, c.requires.ready.long_r) in
     search rules
 
-pub play-round-requires : goal.play-round-requires
-play-round-requires g c =
+pub play_round-requires : goal.play_round-requires
+play_round-requires g c =
     let m : ℕ = c.loop-i.m in
     let e : m - 0 ≡ m = omega arith in
     let lt : c.loop-i.i < length c.args.cs.now = omega arith in
@@ -60,8 +60,8 @@ loop-i-preserved g c =
     let m : ℕ = c.loop-i.m in
     let e : m - 0 ≡ m = omega arith in
     let lt : c.loop-i.i < length c.args.cs.now = omega arith in
-    let told = c.play-round.ensures in
-    let last = c.play-round.new in
+    let told = c.play_round.ensures in
+    let last = c.play_round.new in
     let x = lists_of s c.args.g.now c.args.h.now c.args.fold_l.now c.args.fold_r.now in (
       underway_more s c.args.key c.args.token (length c.args.g.now) x c.args.cs.now c.loop-i.invariant.0 g.K.Kind.laws lt (m - 0) (m / 2) e refl
           (ledger_of last.station) last.g last.h _ _ _ _ last.l last.r _ _ _ _ told.ledger told.g told.h told.l told.r,
@@ -75,8 +75,8 @@ returns g c =
     let kept = c.loop-i.auto in
     let over = c.loop-i-test.false in
     let all : c.loop-i.i ≡ length c.args.cs.now = omega arith in
-    let told = c.close-case.ensures in
-    let a = c.close-case.result in
+    let told = c.close_case.ensures in
+    let a = c.close_case.result in
     let x = lists_of s c.args.g.now c.args.h.now c.args.fold_l.now c.args.fold_r.now in
     let end = underway_end s c.args.key c.args.token (length c.args.g.now) x c.args.cs.now c.loop-i.invariant.0
     c.args.g.now c.args.h.now c.requires.ready.all_g c.requires.ready.all_h all in
