@@ -1,10 +1,10 @@
 -- Residues that are no elements, and a claim in residues. Assumes nothing.
-use Rattle.std.proofs.Common.{◌≡◌, ℕ, ◌+◌, ◌<◌, Bool, true, false, leb, List, [], ◌∷◌, is_some, Some, None, Ok, Err, sym, refl, ap, ◌∙◌, arith, lit<}
+use Rattle.std.proofs.Common.{◌≡◌, ℕ, ◌+◌, ◌<◌, false, leb, [], ◌∷◌, is_some, Some, Ok, sym, refl, ap, ◌∙◌, arith, lit<}
 use Rattle.protocol.specs.Group.{power}
 use Rattle.kind.specs.Bench.{bench_element, bench_entries}
-use Rattle.kind.specs.Constants.{order, modulus, InSubgroup}
+use Rattle.kind.specs.Constants.{order, modulus}
 use Rattle.kind.specs.Kinds.{Meaning}
-use Rattle.kind.specs.Modular.{pow_mod, fast, fast_is}
+use Rattle.kind.specs.Modular.{fast, fast_is}
 use Rattle.kind.specs.Residues.{residue_meaning, residue_number, residue_of_none, residue_of_some}
 use Rattle.ledger.specs.Rules.{claim_of}
 use Rattle.writer.specs.Answers.{claim_answer}

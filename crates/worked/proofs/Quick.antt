@@ -1,5 +1,5 @@
 -- The quick check in clear numbers, over two entries. Assumes nothing.
-use Rattle.std.proofs.Common.{◌≡◌, ℕ, zero, suc, ◌+◌, ◌*◌, ◌%◌, Bool, true, false, eqb, List, [], ◌∷◌, Ok, Err, sym, refl, ap, ◌∙◌, ap₂, suc-mul, add_comm, zero-mul}
+use Rattle.std.proofs.Common.{◌≡◌, ℕ, zero, suc, ◌+◌, ◌*◌, ◌%◌, Bool, eqb, List, [], ◌∷◌, Ok, sym, refl, ap, ◌∙◌, ap₂, suc-mul, add_comm, zero-mul}
 use native.Mathlib.Nat.{add-mod-mod}
 use native.Mathlib.Decide.{dec_lt}
 use Rattle.protocol.specs.Group.{power, product}
@@ -11,7 +11,6 @@ use Rattle.kind.specs.Constants.{order}
 use Rattle.kind.specs.Faults.{and_then}
 use Rattle.kind.specs.Kinds.{element_in}
 use Rattle.kind.specs.declared.clear.Clear.{Clear}
-use Rattle.kind.specs.declared.pair.Pair.{Pair}
 use Rattle.method.specs.Meaning.{reduced}
 use Rattle.method.specs.QuickCheck.{weight_refusal, quick_passes, quick_answer}
 use Rattle.worked.specs.Worked.{bench, claim_folded}

@@ -1,5 +1,5 @@
 -- The worked examples over the bench lists, as equations with the definitions that contracts cite. Assumes nothing.
-use Rattle.std.specs.Prelude.{◌≡◌, ℕ, Bool, true, false, List, [], ◌∷◌, map, replicate, is_some, Ok, Err, Result}
+use Rattle.std.specs.Prelude.{◌≡◌, ℕ, true, false, List, [], ◌∷◌, map, replicate, is_some, Ok, Err, Result}
 use Rattle.std.proofs.Common.{lit<}
 use Rattle.protocol.specs.Weights.{HWeights, g_weights}
 use Rattle.kind.specs.Bench.{bench_entries}

@@ -1,4 +1,6 @@
 // The worked examples over the bench lists, held against the definitions.
+#![tactic(auto)]
+
 ghost use Rattle.worked.specs.Worked.{Worked};
 
 // The worked examples, as one list against the definitions.
