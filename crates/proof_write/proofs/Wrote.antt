@@ -1,5 +1,5 @@
 -- What the whole-proof call leaves at the output's start. Assumes nothing.
-use Rattle.std.proofs.Common.{◌≡◌, ℕ, List, ◌++◌, length, take, drop, IfOk, Ok, Err, vec_items, Result, sym, refl, ap, ◌∙◌, arith, lit≤}
+use Rattle.std.proofs.Common.{◌≡◌, ℕ, List, length, take, drop, IfOk, Ok, Err, vec_items, Result, sym, refl, ap, ◌∙◌, arith, lit≤}
 use Rattle.std.proofs.lemmas.List.{take_at}
 use Rattle.std.proofs.lemmas.Result.{IfOk-weaker}
 use Rattle.kind.specs.Bytes.{WellWritten, clear_writing}

@@ -1,4 +1,6 @@
 // proof-write: groups of quantities, prices and challenges from standard input, and the bundle of their proofs.
+#![tactic(auto)]
+
 mod bundle;
 mod groups;
 mod hex;

@@ -1,13 +1,13 @@
-use Rattle.std.proofs.Common.{◌≡◌, ◌+◌, ◌∷◌, ◌++◌, length, get_or, drop, Some, vec_items, sym, refl, ap, ◌∙◌, arith}
+use Rattle.std.proofs.Common.{◌≡◌, ◌+◌, ◌++◌, get_or, drop, Some, vec_items, refl, ap, ◌∙◌, arith}
 use Rattle.kind.specs.Bytes.{bytes_of}
-use Rattle.proof_write.specs.Bundle.{pairs_from, directory_end, directory_bytes, total}
+use Rattle.proof_write.specs.Bundle.{pairs_from, directory_bytes}
 use Rattle.proof_write.proofs.Lays.{laid_more, laid-all, total-more, total-all, too_far, directory_is}
 use Rattle.proof_write.proofs.bundle.directory.Goals as goal
 
-pub returns-in-default : goal.returns-in-default
-returns-in-default c =
+pub returns-in_default : goal.returns-in_default
+returns-in_default c =
     let ns = c.args.lengths.now in
-    too_far ns (omega (arith, c.loop-i.invariant.0, total-more ns c.loop-i.i c.loop-i-test.true, c.in-default.ensures))
+    too_far ns (omega (arith, c.loop-i.invariant.0, total-more ns c.loop-i.i c.loop-i-test.true, c.in_default.ensures))
 
 pub loop-i-preserved : goal.loop-i-preserved
 loop-i-preserved c =
@@ -18,7 +18,7 @@ loop-i-preserved c =
     let e : at + size ≡ c.in-Some.next = omega (arith, c.in-Some.ensures) in (
       omega (arith, c.loop-i.invariant.0, total-more ns i c.loop-i-test.true),
       laid_more (pairs_from at) ns (directory_bytes ns) i 0 (vec_items c.loop-i.out) _ (bytes_of at ++ bytes_of size) _ c.loop-i-test.true
-          (ap (λ k. (bytes_of at ++ bytes_of size) ++ pairs_from k (drop (i + 1) ns)) e) c.in-ok-push-pair.ensures c.loop-i.invariant.1,
+          (ap (λ k. (bytes_of at ++ bytes_of size) ++ pairs_from k (drop (i + 1) ns)) e) c.in_ok-push_pair.ensures c.loop-i.invariant.1,
     )
 
 pub returns : goal.returns

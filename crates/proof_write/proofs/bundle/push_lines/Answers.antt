@@ -12,8 +12,8 @@ loop-i-preserved c =
     laid_more (λ ms. hex_lines ms rest) ns _ i 0 (vec_items c.loop-i.out) (vec_items c.push.new.self) (hex_of (take n rest) ++ 10 ∷ []) (hex_lines (drop (i + 1) ns) c.cut.result.1.now)
     c.loop-i-test.true (ap (λ bs. (hex_of (take n rest) ++ 10 ∷ []) ++ hex_lines (drop (i + 1) ns) bs) (sym c.cut.ensures.back))
     (
-    laid-two (vec_items c.loop-i.out) (vec_items c.push-hex.new.out) (vec_items c.push.new.self) (hex_of c.cut.result.0.now)
-    (10 ∷ []) (hex_of (take n rest)) (10 ∷ []) c.in-ok-push-hex.ensures c.in-ok-push.ensures.items (ap hex_of c.cut.ensures.front)
+    laid-two (vec_items c.loop-i.out) (vec_items c.push_hex.new.out) (vec_items c.push.new.self) (hex_of c.cut.result.0.now)
+    (10 ∷ []) (hex_of (take n rest)) (10 ∷ []) c.in_ok-push_hex.ensures c.in_ok-push.ensures.items (ap hex_of c.cut.ensures.front)
     refl
     )
     c.loop-i.invariant

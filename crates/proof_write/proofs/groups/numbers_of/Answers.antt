@@ -14,4 +14,4 @@ returns c =
     let e =
     named c.args.line.now c.args.name.now _ (line_left c.next.new.self) c.in-Some.ensures.word
     c.in-Some.ensures.left (sym c.if-not-is.ensures) in
-    IfOk-weaker c.numbers-left.result _ _ (λ o p. p ∙ e) c.numbers-left.ensures
+    IfOk-weaker c.numbers_left.result _ _ (λ o p. p ∙ e) c.numbers_left.ensures

@@ -6,7 +6,7 @@ use Rattle.proof_write.proofs.prove.bench_list.Goals as goal
 
 pub returns : goal.returns
 returns c =
-    let long : length c.deref-mut.result.now ≡ c.args.n = omega (arith, c.deref-mut.ensures.len, c.in-ok-bench.ensures.made) in
-    with_items_is c.in-ok-bench.bench c.fill-bench.new.entries (omega (arith, c.fill-bench.auto.entries, c.deref-mut.ensures.len))
-    ∙ c.fill-bench.ensures
+    let long : length c.deref_mut.result.now ≡ c.args.n = omega (arith, c.deref_mut.ensures.len, c.in_ok-bench.ensures.len) in
+    with_items_is c.in_ok-bench.bench c.fill_bench.new.entries (omega (arith, c.fill_bench.auto.entries, c.deref_mut.ensures.len))
+    ∙ c.fill_bench.ensures
     ∙ ap (bench_entries clear_meaning) long

@@ -10,8 +10,8 @@ returns-in-Ok c =
     let g = c.args.group.now in
     let count : c.len-n.result ≡ length (vec_items g.quantities) = c.len-n.ensures ∙ g.quantities.ok.0 in
     let bases : c.deref.result.now ≡ bench_entries clear_meaning (length (vec_items g.quantities)) =
-    c.deref.ensures.value ∙ c.in-ok-bench.ensures ∙ ap (bench_entries clear_meaning) count in
+    c.deref.ensures.value ∙ c.in_ok-bench.ensures ∙ ap (bench_entries clear_meaning) count in
     c.truncate.ensures.items
-    ∙ ap (take c.in-Ok.length) (with_items_is c.in-ok-out.out c.write-record.new.out (omega (arith, c.write-record.auto.out, c.deref-mut.ensures.len)))
+    ∙ ap (take c.in-Ok.length) (with_items_is c.in_ok-out.out c.write_record.new.out (omega (arith, c.write_record.auto.out, c.deref_mut.ensures.len)))
     ∙ c.in-Ok.ensures
     ∙ ap (λ bs. record_over bs g) bases

@@ -9,7 +9,7 @@ returns-in-Some-2 c =
     record {
       list =
           ap (list_in c.args.name.now) (sym c.in-Some.ensures.line)
-          ∙ sym c.in-ok-list.ensures
+          ∙ sym c.in_ok-list.ensures
           ∙ ap (option_map vec_items) c.in-Some-2.is;
       left = c.in-Some.ensures.left;
       less =
