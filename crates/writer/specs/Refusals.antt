@@ -1,5 +1,5 @@
 -- What a writer's call refuses. Assumes nothing.
-use Rattle.std.specs.Prelude.{ℕ, Bool, ◌||◌, leb, List, [], ◌∷◌, length, Result, ◌==◌, nat_le, nat_lt}
+use Rattle.std.specs.Prelude.{ℕ, Bool, ◌||◌, List, [], ◌∷◌, length, Result, ◌==◌, nat_le, nat_lt}
 use Rattle.kind.specs.Faults.{first_of, unless, wrapped, first_bad}
 use Rattle.kind.specs.Kinds.{Meaning}
 use Rattle.kind.specs.Products.{entries_refusal}
@@ -30,7 +30,7 @@ length_one_refused n = unless (nat_lt 1 n) LengthOne
 module _ {M E : Type 0} (s : Meaning M E) where
   -- 12 at the first scalar that is not below the order
   abbrev pub scalars_refusal : List ℕ → Result Unit WriterFault
-  scalars_refusal xs = first_bad (leb s.order) NotAScalar 0 xs
+  scalars_refusal xs = first_bad (nat_le s.order) NotAScalar 0 xs
 
   -- a challenge that is 0 or not below the order
   abbrev pub no_challenge : ℕ → Bool
