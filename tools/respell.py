@@ -4,9 +4,9 @@
 usage: python3 tools/respell.py [--list]     at the top of the repository, once, after the kit's port.py
 
 A definition, a field of a record of specs/ or a constructor there is a word: `foldPair` and `message-of` become `fold_pair` and
-`message_of`. A type loses its dash: `All-elements` becomes `AllElements`. A lemma keeps a dash that joins a definition's name to what is
-said of it, as `elements-take`, and is a word else. Names that come from src/ stay, and so do names of Rattle's library.
-The names are taken from the files themselves; --list prints the table and writes nothing.
+`message_of`. A type loses its dash: `All-elements` becomes `AllElements`. A lemma keeps its dashes where each joins two functions, as
+in `elements-take`, and is a word else; so is a variable, and the name that a `use` line gives by `as`. Names that come from src/ stay,
+and so do names of Rattle's library. The names are taken from the files themselves; --list prints the table and writes nothing.
 """
 import glob
 import os
@@ -14,14 +14,18 @@ import re
 import sys
 
 OWN = [line.split(':')[0].split()[0] for line in open('crates.txt') if line.strip() and not line.startswith('#')]
+SRC = [f for c in OWN for f in glob.glob(f'crates/{c}/src/**/*.rt', recursive=True)]
 ANTT = [f for c in OWN for part in ('specs', 'proofs') for f in glob.glob(f'crates/{c}/{part}/**/*.antt', recursive=True)]
 DEFINED = re.compile(r'^[ \t]*(?:(?P<mark>abbrev|unfoldable)[ \t]+)?(?:pub[ \t]+)?(?:(?P<sort>record|data)[ \t]+)?(?P<name>[^\s:(){}\[\],;.=]+)[ \t]+(?:[({][^=\n]*[)}][ \t]+)?:(?=\s)', re.M)
 TOKEN = re.compile(r"[^\s(){}\[\],;.`«»]+")
 # `verdict_of` would fall together with `verdictOf`, and `last_of` with a word of `station`; `claim_size` and `round_size` are fields
-# in src/
+# in src/, and `message_call` and `draw_call` functions there
 CHOSEN = {'verdict-of': 'verdict_told', 'last-of': 'last_pair_to', 'Goes_on': 'GoesOn', 'claimSize': 'size_of_claim', 'roundSize': 'size_of_round'}
-# functions of the library or of mathematics that lemmas of this repository are named after
-FUNCTIONS = {'length', 'get_or', 'take', 'drop', 'map', 'reverse', 'zip2', 'pow', 'pow_mod', 'mod', 'mul', 'prod', 'power', 'dot', 'elements', 'inv', 'half'}
+CHOSEN |= {'message-call': 'ledger_message', 'draw-call': 'ledger_draw'}
+# functions that lemmas of this repository are named after: of the library, of mathematics, and its own
+FUNCTIONS = {'length', 'take', 'drop', 'map', 'reverse', 'append', 'set', 'nil', 'elements', 'entries', 'fold', 'pairs_in'}
+FUNCTIONS |= {'pow', 'mod', 'mul', 'prod', 'dot', 'inv', 'op', 'one', 'unit'}
+VARIABLE = re.compile(r"(?:[({](?=[\w' -]+ :)|λ (?=[\w' -]+\.)|let (?=[\w'-]+ [:=]))([\w' -]+)")
 
 
 def snake(name):
@@ -35,8 +39,8 @@ def camel(name):
 
 def library_names():
     names = set()
-    for f in ANTT + glob.glob('crates/*/src/**/*.rt', recursive=True):
-        for m in re.finditer(r'^\s*(?:ghost )?use ([^\s{;]+)(?:\.\{([^}]*)\})?', open(f).read(), re.M):
+    for f in ANTT + SRC:
+        for m in re.finditer(r'^\s*(?:ghost )?use ([^\s{;]+?)(?:\.\{([^}]*)\})?(?: as [^;\s]+)?;?$', open(f).read(), re.M):
             path = m.group(1)
             if re.match(r'Rattle\.(%s)\.' % '|'.join(OWN), path):
                 continue
@@ -47,7 +51,7 @@ def library_names():
 
 def source_names():
     names = set()
-    for f in glob.glob('crates/*/src/**/*.rt', recursive=True):
+    for f in SRC:
         text = '\n'.join(l for l in open(f).read().split('\n') if not re.match(r'\s*(//|ghost |requires|ensures)', l))
         names |= set(re.findall(r'[A-Za-z_][A-Za-z0-9_]*', text))
     return names
@@ -72,14 +76,20 @@ def table():
             if name[0].isupper():
                 kind = 'type'
             found.setdefault(name, set()).add(kind)
-    functions = FUNCTIONS | {snake(n) for n, kinds in found.items() if kinds & {'abbrev', 'unfoldable'} and '-' not in n}
+        for m in VARIABLE.finditer(text):
+            for name in m.group(1).split():
+                if re.match(r'^[a-z][a-z0-9_]*(-[a-z0-9_]+)+$', name) and name not in owed and name not in library:
+                    found.setdefault(name, set()).add('variable')
+    for f in ANTT + SRC:
+        for name in re.findall(r' as ([a-z][a-z0-9_]*(?:-[a-z0-9_]+)+)[,};]', open(f).read()):
+            found.setdefault(name, set()).add('variable')
     respelled = {}
     for name, kinds in sorted(found.items()):
         if 'type' in kinds or kinds & {'record', 'data'}:
             new = camel(name) if '-' in name or '_' in name else name
         elif kinds == {'lemma'} or (kinds == {'field'} and '-' in name):
             parts = name.split('-')
-            joined = len(parts) > 1 and snake(parts[0]) in functions and kinds == {'lemma'}
+            joined = len(parts) > 1 and all(snake(p) in FUNCTIONS for p in parts) and kinds == {'lemma'}
             new = '-'.join(snake(p) for p in parts) if joined else snake(name)
         else:
             new = snake(name)
@@ -117,7 +127,7 @@ def main():
         out = turn(text)
         if out != text:
             open(f, 'w').write(out)
-    for f in glob.glob('crates/*/src/**/*.rt', recursive=True):
+    for f in SRC:
         text = open(f).read()
         out = '\n'.join(turn(l) if re.match(r'\s*(ghost |requires|ensures)', l) else l for l in text.split('\n'))
         if out != text:

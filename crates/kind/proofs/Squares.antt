@@ -45,14 +45,14 @@ module _ (m : ℕ) (above : 1 < m) where
       simp (d, f) (mod-lt (a * b) (omega arith), mod-lt (b * b) (omega arith), odd m above a b n e ∙ t.2)
 
 module _ {E : Type 0} {q : ℕ} {g : Group E} (laws : Laws q g) where
-  pub power-even : (a b x y r : E) (n : ℕ) → x ≡ a → y ≡ g.join b b → n % 2 ≡ 0 → g.join a (power g b n) ≡ r → g.join x (power g y (n / 2)) ≡ r
-  power-even a b x y r n d f e h = ap₂ (λ u v. g.join u (power g v (n / 2))) d f ∙ ap (g.join a) (sym (halve_even laws b n e)) ∙ h
+  pub power_even : (a b x y r : E) (n : ℕ) → x ≡ a → y ≡ g.join b b → n % 2 ≡ 0 → g.join a (power g b n) ≡ r → g.join x (power g y (n / 2)) ≡ r
+  power_even a b x y r n d f e h = ap₂ (λ u v. g.join u (power g v (n / 2))) d f ∙ ap (g.join a) (sym (halve_even laws b n e)) ∙ h
 
-  pub power-odd : (a b x y r : E) (n : ℕ) → x ≡ g.join a b → y ≡ g.join b b → n % 2 ≡ 1 → g.join a (power g b n) ≡ r → g.join x (power g y (n / 2)) ≡ r
-  power-odd a b x y r n d f e h =
+  pub power_odd : (a b x y r : E) (n : ℕ) → x ≡ g.join a b → y ≡ g.join b b → n % 2 ≡ 1 → g.join a (power g b n) ≡ r → g.join x (power g y (n / 2)) ≡ r
+  power_odd a b x y r n d f e h =
       ap₂ (λ u v. g.join u (power g v (n / 2))) d f ∙ laws.assoc a b (power g (g.join b b) (n / 2))
       ∙ ap (g.join a) (sym (halve_odd laws b n e)) ∙ h
 
-  pub power-end : (a b r : E) (n : ℕ) → n ≡ 0 → g.join a (power g b n) ≡ r → a ≡ r
-  power-end a b r n z h =
+  pub power_end : (a b r : E) (n : ℕ) → n ≡ 0 → g.join a (power g b n) ≡ r → a ≡ r
+  power_end a b r n z h =
       sym (ap (λ (k : ℕ). g.join a (power g b k)) z ∙ ap (g.join a) (pow-zero g b) ∙ unit_right laws a) ∙ h

@@ -9,15 +9,15 @@ pub went : {T U F : Type 0} (r : Result T F) (f : T → Result U F) (x : T) (t :
 went r f x t h e = ap (λ y. and_then y f) h ∙ e
 
 -- the refusals of two lists, one after the other
-pub first-append : {F : Type 0} (xs ys : List (Result Unit F)) → first_of (xs ++ ys) ≡ and_then (first_of xs) (λ _. first_of ys)
-first-append [] ys = refl
-first-append (Ok x ∷ xs) ys = first-append xs ys
-first-append (Err e ∷ xs) ys = refl
+pub first_append : {F : Type 0} (xs ys : List (Result Unit F)) → first_of (xs ++ ys) ≡ and_then (first_of xs) (λ _. first_of ys)
+first_append [] ys = refl
+first_append (Ok x ∷ xs) ys = first_append xs ys
+first_append (Err e ∷ xs) ys = refl
 
 -- two steps went well
-pub both-went : {T U F : Type 0} (r : Result T F) (f : T → Result U F) (u : U) → and_then r f ≡ Ok u → (x : T) × (r ≡ Ok x) × (f x ≡ Ok u)
-both-went (Ok x) f u e = (x, refl, e)
-both-went (Err g) f u e = absurd (let z : ◌≡◌ {A = ℕ} 0 1 = cc in omega arith)
+pub both_went : {T U F : Type 0} (r : Result T F) (f : T → Result U F) (u : U) → and_then r f ≡ Ok u → (x : T) × (r ≡ Ok x) × (f x ≡ Ok u)
+both_went (Ok x) f u e = (x, refl, e)
+both_went (Err g) f u e = absurd (let z : ◌≡◌ {A = ℕ} 0 1 = cc in omega arith)
 
 -- a test that was no refusal passed
 pub held : {F : Type 0} (b : Bool) (fault : F) (x : Unit) → unless b fault ≡ Ok x → b ≡ true

@@ -1,7 +1,7 @@
 // A commutative group of prime order whose elements have plain entries in lists.
 ghost use Rattle.std.specs.Prelude.{◌≡◌, ◌+◌, ◌<◌, ◌≤◌, length, take, slice_index_or};
 ghost use Rattle.std.specs.Option.{ok_or};
-ghost use Rattle.protocol.specs.Group.{power as power-of, product as product-of};
+ghost use Rattle.protocol.specs.Group.{power as power_of, product as product_of};
 ghost use Rattle.kind.specs.Kinds.{Meaning, Lawful, elements, AllElements};
 ghost use Rattle.kind.specs.Sides.{fold_pair, fold_of};
 ghost use Rattle.kind.specs.declared.fault.KindFault.TheVariants.{NotAnElement};
@@ -46,7 +46,7 @@ pub trait Kind: Copy {
 
     // x joined e times over, by squaring.
     fn power(self, e: u32) -> Self
-        ensures { result ≡ power-of meaning.group self e }
+        ensures { result ≡ power_of meaning.group self e }
     {
         let mut acc = Self::unit();
         let mut b = self;
@@ -74,7 +74,7 @@ pub trait Kind: Copy {
     fn join_powers(entries: &[Self::Entry], scalars: &[u32]) -> Self
         requires checked { AllElements meaning entries.now }
         requires long { length scalars.now ≡ length entries.now }
-        ensures { result ≡ product-of meaning.group (elements meaning entries.now) scalars.now }
+        ensures { result ≡ product_of meaning.group (elements meaning entries.now) scalars.now }
     {
         let mut total = Self::unit();
         for i in 0..entries.len() {

@@ -42,8 +42,8 @@ module _ {M E : Type 0} (kind : Meaning M E) where
   folds_h_more (b ∷ cs) c hs = folds_h_more cs c (fold_h kind.order kind.group b hs)
 
   -- a challenge below the order is what it is modulo the order
-  reduced-more : (cs : List ℕ) (c : ℕ) → c < kind.order → reduced kind (cs ++ c ∷ []) ≡ reduced kind cs ++ c ∷ []
-  reduced-more cs c small = map-append (λ d. d % kind.order) cs (c ∷ []) ∙ ap (λ (d : ℕ). reduced kind cs ++ d ∷ []) (mod-eq_of_lt small)
+  reduced_more : (cs : List ℕ) (c : ℕ) → c < kind.order → reduced kind (cs ++ c ∷ []) ≡ reduced kind cs ++ c ∷ []
+  reduced_more cs c small = map-append (λ d. d % kind.order) cs (c ∷ []) ∙ ap (λ (d : ℕ). reduced kind cs ++ d ∷ []) (mod-eq_of_lt small)
 
 -- why a method refuses no last pair that follows the rules
 pub sizes : (k : ℕ) → k ≤ 8 → is_size (2 ^ k) ≡ true
@@ -209,35 +209,35 @@ module _ {M E : Type 0} (kind : Meaning M E) (start : Lists M) (key : M) where
   runs_some : (l : Ledger M) (e : Case M) (rest : List (Call M E)) → l.running ≡ Some e → Runs l.running rest → Agrees e rest
   runs_some l e rest is r = subst (λ (o : Option (Case M)). Runs o rest) is r
 
-  message-good : (calls : List (Call M E)) (l : Ledger M) (o : Sort) (s : Numbers) (m : Message M) (e : Case M) (st : Stage M) → l.running ≡ Some e → e.stage ≡ st → Inv calls l
+  message_good : (calls : List (Call M E)) (l : Ledger M) (o : Sort) (s : Numbers) (m : Message M) (e : Case M) (st : Stage M) → l.running ≡ Some e → e.stage ≡ st → Inv calls l
       → Good calls (message o s m) (message_at l s m e st)
-  message-good calls l o s m e ForMessage is at inv =
+  message_good calls l o s m e ForMessage is at inv =
       good_cond (same_numbers s (numbers_at l.number l.page e.rounds))
       (record { kept = extend calls (message o s m) l _ (λ k z h. let c : ◌≡◌ {A = ℕ} 0 1 = cc h in omega arith) (λ rest r. heard e o s m rest at (runs_some l e _ is r)) inv })
       (record { kept = inv })
-  message-good calls l o s m e (ForDraw n) is at inv = record { kept = inv }
-  message-good calls l o s m e ForLast is at inv = record { kept = inv }
+  message_good calls l o s m e (ForDraw n) is at inv = record { kept = inv }
+  message_good calls l o s m e ForLast is at inv = record { kept = inv }
 
-  after-draw : {x : Lists M} {o u : Sort} {s t : Numbers} {m : Message M} {c : ℕ} {rest : List (Call M E)} → GoesOn kind start key x (message o s m ∷ (draw u t c ∷ rest))
+  after_draw : {x : Lists M} {o u : Sort} {s t : Numbers} {m : Message M} {c : ℕ} {rest : List (Call M E)} → GoesOn kind start key x (message o s m ∷ (draw u t c ∷ rest))
       → (m ≡ message_of kind key x) × GoesOn kind start key (folded kind c x) rest
-  after-draw (round h g) = (h, g)
+  after_draw (round h g) = (h, g)
 
   -- one round more
-  pub after-round : Lawful kind → (e : Case M) (m : Message M) (u : Sort) (t : Numbers) (c : ℕ) (rest : List (Call M E)) → c < kind.order → e.stage ≡ ForDraw m
+  pub after_round : Lawful kind → (e : Case M) (m : Message M) (u : Sort) (t : Numbers) (c : ℕ) (rest : List (Call M E)) → c < kind.order → e.stage ≡ ForDraw m
       → Agrees e (draw u t c ∷ rest) → Agrees (drawn kind e m c) rest
-  after-round laws e m u t c rest small at a =
+  after_round laws e m u t c rest small at a =
       let q = kind.order in
       let g = kind.group in
       let x = a.x in
       let st : AtStage x a.j (ForDraw m) (draw u t c ∷ rest) = subst (λ (v : Stage M). AtStage x a.j v (draw u t c ∷ rest)) at a.stage in
-      let more-calls = after-draw st.1.1.1 in
+      let more_calls = after_draw st.1.1.1 in
       let i : ℕ = a.j - 1 in
       let up : a.j ≡ suc i = (let pos = st.0 in omega arith) in
       let half : 2 ^ a.j ≡ 2 ^ i + 2 ^ i = ap (λ (n : ℕ). 2 ^ n) up ∙ rw pow-suc (omega arith) in
       let next = keeps laws.group key c (2 ^ i) (standing x e.z) (subst (λ (n : ℕ). Sized n (standing x e.z)) half a.sized) a.claim in
       let sides = λ (n : Message M). standing (folded kind c x) (fold_commitments kind c (lower n) e.z (upper n)) in
       let down : i + (e.rounds + 1) ≡ e.k = (let go = a.to_go in omega arith) in
-      let cs = reduced-more kind e.challenges c small in
+      let cs = reduced_more kind e.challenges c small in
       record {
         x = folded kind c x;
         j = i;
@@ -246,11 +246,11 @@ module _ {M E : Type 0} (kind : Meaning M E) (start : Lists M) (key : M) where
         all_hs = a.all_hs;
         to_go = down;
         counted = length_more e.challenges c ∙ ap (λ (n : ℕ). n + 1) a.counted;
-        sized = subst (λ (n : Message M). Sized (2 ^ i) (sides n)) (sym more-calls.0) next.0;
-        claim = subst (λ (n : Message M). TrueClaim q g key (sides n)) (sym more-calls.0) next.1;
+        sized = subst (λ (n : Message M). Sized (2 ^ i) (sides n)) (sym more_calls.0) next.0;
+        claim = subst (λ (n : Message M). TrueClaim q g key (sides n)) (sym more_calls.0) next.1;
         gs = ap (fold_g q g c) a.gs ∙ sym (folds_g_more kind (reduced kind e.challenges) c start.gs) ∙ ap (λ (l : List ℕ). folds_g q g l start.gs) (sym cs);
         hs = ap (fold_h q g c) a.hs ∙ sym (folds_h_more kind (reduced kind e.challenges) c start.hs) ∙ ap (λ (l : List ℕ). folds_h q g l start.hs) (sym cs);
-        stage = stage_goes (folded kind c x) i e.k (e.rounds + 1) rest down more-calls.1;
+        stage = stage_goes (folded kind c x) i e.k (e.rounds + 1) rest down more_calls.1;
       }
     where
       length_more : (cs : List ℕ) (c : ℕ) → length (cs ++ c ∷ []) ≡ length cs + 1
@@ -271,50 +271,50 @@ module _ {M E : Type 0} (kind : Meaning M E) (start : Lists M) (key : M) where
   draw_good laws calls l u s c e (ForDraw m) is at inv =
       good_cond (same_numbers s (numbers_at l.number l.page e.rounds))
       (good_cond_if (eqb c 0 || leb kind.order c) (record { kept = inv })
-      (λ small. record { kept = extend calls (draw u s c) l _ (λ k z h. let d : ◌≡◌ {A = ℕ} 0 1 = cc h in omega arith) (λ rest r. after-round laws e m u s c rest (below c small) at (runs_some l e _ is r)) inv }))
+      (λ small. record { kept = extend calls (draw u s c) l _ (λ k z h. let d : ◌≡◌ {A = ℕ} 0 1 = cc h in omega arith) (λ rest r. after_round laws e m u s c rest (below c small) at (runs_some l e _ is r)) inv }))
       (record { kept = inv })
   draw_good laws calls l u s c e ForLast is at inv = record { kept = inv }
 
-  judged-good : (calls : List (Call M E)) (l : Ledger M) (o : Sort) (s : Numbers) (p : Last M E) (r : Result Bool MethodFault) → Inv calls l → Good calls (last_pair o s p) (judged l r)
-  judged-good calls l o s p (Ok b) inv = record { kept = tt }
-  judged-good calls l o s p (Err why) inv = record { kept = inv }
+  judged_good : (calls : List (Call M E)) (l : Ledger M) (o : Sort) (s : Numbers) (p : Last M E) (r : Result Bool MethodFault) → Inv calls l → Good calls (last_pair o s p) (judged l r)
+  judged_good calls l o s p (Ok b) inv = record { kept = tt }
+  judged_good calls l o s p (Err why) inv = record { kept = inv }
 
   last_good : (calls : List (Call M E)) (l : Ledger M) (o : Sort) (s : Numbers) (p : Last M E) (e : Case M) (st : Stage M) → Inv calls l → Good calls (last_pair o s p) (last_pair_at kind l s p e st)
   last_good calls l o s p e ForMessage inv = record { kept = inv }
   last_good calls l o s p e (ForDraw m) inv = record { kept = inv }
   last_good calls l o s p e ForLast inv =
-      good_cond (same_numbers s (numbers_at l.number l.page e.rounds)) (judged-good calls l o s p (case_answer kind e p) inv) (record { kept = inv })
+      good_cond (same_numbers s (numbers_at l.number l.page e.rounds)) (judged_good calls l o s p (case_answer kind e p) inv) (record { kept = inv })
 
   -- every call keeps the invariant
-  step-at : Lawful kind → (calls : List (Call M E)) (l : Ledger M) (x : Call M E) (run : Option (Case M)) → l.running ≡ run → Inv calls l → Good calls x (step_on kind l x run)
-  step-at laws calls l (opening k z) run is inv = opening_good calls l k z run inv
-  step-at laws calls l (message Waiting s m) None is inv = record { kept = inv }
-  step-at laws calls l (message Waiting s m) (Some e) is inv = message-good calls l Waiting s m e e.stage is refl inv
-  step-at laws calls l (message Heard s m) run is inv = record { kept = inv }
-  step-at laws calls l (message Closing s m) run is inv = record { kept = inv }
-  step-at laws calls l (draw Waiting s c) run is inv = record { kept = inv }
-  step-at laws calls l (draw Heard s c) None is inv = record { kept = inv }
-  step-at laws calls l (draw Heard s c) (Some e) is inv = draw_good laws calls l Heard s c e e.stage is refl inv
-  step-at laws calls l (draw Closing s c) run is inv = record { kept = inv }
-  step-at laws calls l (last_pair Waiting s p) run is inv = record { kept = inv }
-  step-at laws calls l (last_pair Heard s p) run is inv = record { kept = inv }
-  step-at laws calls l (last_pair Closing s p) None is inv = record { kept = inv }
-  step-at laws calls l (last_pair Closing s p) (Some e) is inv = last_good calls l Closing s p e e.stage inv
-  step-at laws calls l (withdrawal sort s) None is inv = record { kept = inv }
-  step-at laws calls l (withdrawal sort s) (Some e) is inv =
+  step_at : Lawful kind → (calls : List (Call M E)) (l : Ledger M) (x : Call M E) (run : Option (Case M)) → l.running ≡ run → Inv calls l → Good calls x (step_on kind l x run)
+  step_at laws calls l (opening k z) run is inv = opening_good calls l k z run inv
+  step_at laws calls l (message Waiting s m) None is inv = record { kept = inv }
+  step_at laws calls l (message Waiting s m) (Some e) is inv = message_good calls l Waiting s m e e.stage is refl inv
+  step_at laws calls l (message Heard s m) run is inv = record { kept = inv }
+  step_at laws calls l (message Closing s m) run is inv = record { kept = inv }
+  step_at laws calls l (draw Waiting s c) run is inv = record { kept = inv }
+  step_at laws calls l (draw Heard s c) None is inv = record { kept = inv }
+  step_at laws calls l (draw Heard s c) (Some e) is inv = draw_good laws calls l Heard s c e e.stage is refl inv
+  step_at laws calls l (draw Closing s c) run is inv = record { kept = inv }
+  step_at laws calls l (last_pair Waiting s p) run is inv = record { kept = inv }
+  step_at laws calls l (last_pair Heard s p) run is inv = record { kept = inv }
+  step_at laws calls l (last_pair Closing s p) None is inv = record { kept = inv }
+  step_at laws calls l (last_pair Closing s p) (Some e) is inv = last_good calls l Closing s p e e.stage inv
+  step_at laws calls l (withdrawal sort s) None is inv = record { kept = inv }
+  step_at laws calls l (withdrawal sort s) (Some e) is inv =
       good_cond (of_sort e.stage sort && same_numbers s (numbers_at l.number l.page e.rounds)) (record { kept = tt }) (record { kept = inv })
-  step-at laws calls l page_turn None is inv = record { kept = tt }
-  step-at laws calls l page_turn (Some e) is inv = record { kept = inv }
+  step_at laws calls l page_turn None is inv = record { kept = tt }
+  step_at laws calls l page_turn (Some e) is inv = record { kept = inv }
 
   pub step_keeps : Lawful kind → (calls : List (Call M E)) (l : Ledger M) (x : Call M E) → Inv calls l → Inv (noted calls x (step kind l x).answer) (step kind l x).ledger
-  step_keeps laws calls l x inv = (step-at laws calls l x l.running refl inv).kept
+  step_keeps laws calls l x inv = (step_at laws calls l x l.running refl inv).kept
 
   -- the last pair of a case that agrees passes
-  at-end : Lawful kind → (e : Case M) (x : Lists M) (o : Sort) (s : Numbers) (p : Last M E)
+  at_end : Lawful kind → (e : Case M) (x : Lists M) (o : Sort) (s : Numbers) (p : Last M E)
       → Sized 1 (standing x e.z) → TrueClaim kind.order kind.group key (standing x e.z)
       → x.gs ≡ folds_g kind.order kind.group (reduced kind e.challenges) start.gs → x.hs ≡ folds_h kind.order kind.group (reduced kind e.challenges) start.hs
       → GoesOn kind start key x (last_pair o s p ∷ []) → verdict_of kind e.challenges e.z p.gs p.hs p.key p.a p.b ≡ true
-  at-end laws e x o s p n z eg eh (last pg ph pk pa pb) =
+  at_end laws e x o s p n z eg eh (last pg ph pk pa pb) =
       let q = kind.order in
       let g = kind.group in
       let cs : List ℕ = reduced kind e.challenges in
@@ -343,8 +343,8 @@ module _ {M E : Type 0} (kind : Meaning M E) (start : Lists M) (key : M) where
       let size = ap (λ (i : ℕ). 2 ^ i) k in
       let few : length e.challenges ≤ 8 = (let f = a.few in omega arith) in
       record {
-        pass = at-end laws e a.x o s p n a.claim a.gs a.hs st.1;
-        free = λ room_e room_n small-a small_b. no_refusal kind laws e.challenges p start.gs start.hs few (a.all_gs ∙ size) (a.all_hs ∙ size) brought.0 brought.1 room_e room_n small-a small_b;
+        pass = at_end laws e a.x o s p n a.claim a.gs a.hs st.1;
+        free = λ room_e room_n small_a small_b. no_refusal kind laws e.challenges p start.gs start.hs few (a.all_gs ∙ size) (a.all_hs ∙ size) brought.0 brought.1 room_e room_n small_a small_b;
       }
 
   pub last_agrees : (calls : List (Call M E)) (l : Ledger M) (o : Sort) (s : Numbers) (p : Last M E) → Inv calls l → Follows kind start key (calls ++ last_pair o s p ∷ []) → Runs l.running (last_pair o s p ∷ [])

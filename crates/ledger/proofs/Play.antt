@@ -16,9 +16,9 @@ use Rattle.ledger.specs.declared.parts.Page.{Page}
 use Rattle.ledger.specs.declared.parts.Sort.TheVariants.{Waiting, Heard, Closing}
 use Rattle.ledger.specs.declared.parts.Stage.{Stage}
 use Rattle.ledger.specs.declared.parts.Stage.TheVariants.{ForMessage, ForDraw, ForLast}
-use Rattle.ledger.proofs.Agreement.{Agrees, ends_well, opened, heard, after-round}
+use Rattle.ledger.proofs.Agreement.{Agrees, ends_well, opened, heard, after_round}
 use Rattle.ledger.proofs.Tokens.{same_itself}
-use Rattle.ledger.proofs.Walk.{end-taken}
+use Rattle.ledger.proofs.Walk.{end_taken}
 
 single : (l : List ℕ) → length l ≡ 1 → l ≡ get_or l 0 0 ∷ []
 single [] h = absurd (omega arith)
@@ -32,11 +32,11 @@ zip_below q f small pos (x ∷ xs) [] i = pos
 zip_below q f small pos (x ∷ xs) (y ∷ ys) zero = small x y
 zip_below q f small pos (x ∷ xs) (y ∷ ys) (suc i) = zip_below q f small pos xs ys i
 
-chosen-true : {X : Type 0} (b : Bool) (u v : X) → b ≡ true → cond b u v ≡ u
-chosen-true b u v e = ap (λ (c : Bool). cond c u v) e
+chosen_true : {X : Type 0} (b : Bool) (u v : X) → b ≡ true → cond b u v ≡ u
+chosen_true b u v e = ap (λ (c : Bool). cond c u v) e
 
-chosen-false : {X : Type 0} (b : Bool) (u v : X) → b ≡ false → cond b u v ≡ v
-chosen-false b u v e = ap (λ (c : Bool). cond c u v) e
+chosen_false : {X : Type 0} (b : Bool) (u v : X) → b ≡ false → cond b u v ≡ v
+chosen_false b u v e = ap (λ (c : Bool). cond c u v) e
 
 twice : (n : ℕ) → 2 ^ suc n ≡ 2 ^ n + 2 ^ n
 twice n = rw pow-suc (omega arith)
@@ -80,13 +80,13 @@ module _ {M E : Type 0} (kind : Meaning M E) (laws : Lawful kind) where
     pub sent : (e : Case M) (m : Message M) → e.stage ≡ ForMessage → (step kind (at e) (message Waiting (token e.rounds) m)).ledger ≡ at (told e m)
     sent e m h =
         ap (λ (st : Stage M). (message_at (at e) (token e.rounds) m e st).ledger) h
-        ∙ ap (λ (o : Step M). o.ledger) (chosen-true (same_numbers (token e.rounds) (token e.rounds)) _ _ (same_itself (token e.rounds)))
+        ∙ ap (λ (o : Step M). o.ledger) (chosen_true (same_numbers (token e.rounds) (token e.rounds)) _ _ (same_itself (token e.rounds)))
 
     pub took : (e : Case M) (m : Message M) (c : ℕ) → 0 < c → c < kind.order → (step kind (at (told e m)) (draw Heard (token e.rounds) c)).ledger ≡ at (drawn kind e m c)
     took e m c pos lt =
         let bad : (eqb c 0 || leb kind.order c) ≡ false = ap₂ ◌||◌ (ne_eqb c 0 (λ z. omega arith)) (lt-leb kind.order c lt) in
         ap (λ (o : Step M). o.ledger)
-        (chosen-true (same_numbers (token e.rounds) (token e.rounds)) _ _ (same_itself (token e.rounds)) ∙ chosen-false (eqb c 0 || leb kind.order c) _ _ bad)
+        (chosen_true (same_numbers (token e.rounds) (token e.rounds)) _ _ (same_itself (token e.rounds)) ∙ chosen_false (eqb c 0 || leb kind.order c) _ _ bad)
 
     play : (cs : List ℕ) (x : Lists M) (e : Case M) → Playable kind x cs → Agrees kind start key e (script x e.rounds cs)
         → e.stage ≡ stage_after e.k e.rounds → e.rounds + length cs ≡ e.k
@@ -98,7 +98,7 @@ module _ {M E : Type 0} (kind : Meaning M E) (laws : Lawful kind) where
         let size : length p.gs ≡ length start.gs = length-map start.gs kind.entry in
         ap (λ (s : Stage M). (last_pair_at kind (at e) (token e.rounds) p e s).ledger.page) is_last
         ∙ ap (λ (o : Step M). o.ledger.page)
-        (end-taken laws start key (at e) (token e.rounds) p e (ends_well kind start key laws e Closing (token e.rounds) p a is_last) (same_itself (token e.rounds))
+        (end_taken laws start key (at e) (token e.rounds) p e (ends_well kind start key laws e Closing (token e.rounds) p a is_last) (same_itself (token e.rounds))
         (omega (arith, size)) (omega (arith, size)) (ok.l_below 0) (ok.r_below 0))
     play (c ∷ cs) x e ok a st n re rn =
         let m : Message M = message_of kind key x in
@@ -109,7 +109,7 @@ module _ {M E : Type 0} (kind : Meaning M E) (laws : Lawful kind) where
         ap (λ (l : Ledger M). (final kind (step kind l (draw Heard t c)).ledger rest).page) (sent e m waits)
         ∙ ap (λ (l : Ledger M). (final kind l rest).page) (took e m c range.0 range.1)
         ∙ play cs (folded kind c x) (drawn kind e m c) (playable_more x c cs ok)
-        (after-round kind start key laws (told e m) m Heard t c rest range.1 refl (heard kind start key e Waiting t m (draw Heard t c ∷ rest) waits a))
+        (after_round kind start key laws (told e m) m Heard t c rest range.1 refl (heard kind start key e Waiting t m (draw Heard t c ∷ rest) waits a))
         refl (omega arith) re rn
 
   pub opens_up : (l : Ledger M) (k : ℕ) (z : Pair M) → l.running ≡ None → k ≤ 8 → l.page.opened < 10000
@@ -117,7 +117,7 @@ module _ {M E : Type 0} (kind : Meaning M E) (laws : Lawful kind) where
       ≡ record { number = l.number; page = one_opened l.page; running = Some (record { k = k; rounds = 0; stage = stage_after k 0; z = z; challenges = [] }) }
   opens_up l k z none few room =
       ap (λ (run : Option (Case M)). (opening_step l k z run).ledger) none
-      ∙ ap (λ (o : Step M). o.ledger) (chosen-false (ltb 8 k) _ _ (le-ltb 8 k few) ∙ chosen-false (leb 10000 l.page.opened) _ _ (lt-leb 10000 l.page.opened room))
+      ∙ ap (λ (o : Step M). o.ledger) (chosen_false (ltb 8 k) _ _ (le-ltb 8 k few) ∙ chosen_false (leb 10000 l.page.opened) _ _ (lt-leb 10000 l.page.opened room))
 
   pub goes_through : (l : Ledger M) → l.running ≡ None → l.page.opened < 10000
       → (x : Lists M) (key : M) (cs : List ℕ) (elements numbers : ℕ) → Playable kind x cs → 2 ^ length cs ≤ elements → 2 ^ length cs ≤ numbers

@@ -70,17 +70,17 @@ module _ {M E : Type 0} (kind : Meaning M E) where
   good_cond true p q = p refl
   good_cond false p q = q
 
-  judged-good : (a : Option Answer) (l : Ledger M) (r : Result Bool MethodFault) → Holds a l → Good a (judged l r)
-  judged-good a l (Ok b) h = record { kept = tt }
-  judged-good a l (Err why) h = record { kept = h }
+  judged_good : (a : Option Answer) (l : Ledger M) (r : Result Bool MethodFault) → Holds a l → Good a (judged l r)
+  judged_good a l (Ok b) h = record { kept = tt }
+  judged_good a l (Err why) h = record { kept = h }
 
-  message-good : (a : Option Answer) (l : Ledger M) (s : Numbers) (m : Message M) (e : Case M) (st : Stage M) → Holds a l → Good a (message_at l s m e st)
-  message-good a l s m e ForMessage h =
+  message_good : (a : Option Answer) (l : Ledger M) (s : Numbers) (m : Message M) (e : Case M) (st : Stage M) → Holds a l → Good a (message_at l s m e st)
+  message_good a l s m e ForMessage h =
       good_cond (same_numbers s (numbers_at l.number l.page e.rounds))
       (λ fits. record { kept = (_, record { runs = refl; sort_fits = refl; numbers_fit = fits }) })
       (record { kept = h })
-  message-good a l s m e (ForDraw n) h = record { kept = h }
-  message-good a l s m e ForLast h = record { kept = h }
+  message_good a l s m e (ForDraw n) h = record { kept = h }
+  message_good a l s m e ForLast h = record { kept = h }
 
   draw_good : (a : Option Answer) (l : Ledger M) (s : Numbers) (c : ℕ) (e : Case M) (st : Stage M) → Holds a l → Good a (draw_at kind l s c e st)
   draw_good a l s c e ForMessage h = record { kept = h }
@@ -95,34 +95,34 @@ module _ {M E : Type 0} (kind : Meaning M E) where
   last_good a l s p e ForMessage h = record { kept = h }
   last_good a l s p e (ForDraw m) h = record { kept = h }
   last_good a l s p e ForLast h =
-      good_cond (same_numbers s (numbers_at l.number l.page e.rounds)) (λ fits. judged-good a l (case_answer kind e p) h) (record { kept = h })
+      good_cond (same_numbers s (numbers_at l.number l.page e.rounds)) (λ fits. judged_good a l (case_answer kind e p) h) (record { kept = h })
 
-  step-at : (a : Option Answer) (l : Ledger M) (x : Call M E) (run : Option (Case M)) → Holds a l → Good a (step_on kind l x run)
-  step-at a l (opening k z) None h =
+  step_at : (a : Option Answer) (l : Ledger M) (x : Call M E) (run : Option (Case M)) → Holds a l → Good a (step_on kind l x run)
+  step_at a l (opening k z) None h =
       good_cond (ltb 8 k) (λ big. record { kept = h })
       (good_cond (leb 10000 l.page.opened) (λ full. record { kept = h })
       (record { kept = (_, record { runs = refl; sort_fits = fits_after M k 0; numbers_fit = same_itself (numbers_at l.number (one_opened l.page) 0) }) }))
-  step-at a l (opening k z) (Some e) h = record { kept = h }
-  step-at a l (message Waiting s m) None h = record { kept = h }
-  step-at a l (message Waiting s m) (Some e) h = message-good a l s m e e.stage h
-  step-at a l (message Heard s m) run h = record { kept = h }
-  step-at a l (message Closing s m) run h = record { kept = h }
-  step-at a l (draw Waiting s c) run h = record { kept = h }
-  step-at a l (draw Heard s c) None h = record { kept = h }
-  step-at a l (draw Heard s c) (Some e) h = draw_good a l s c e e.stage h
-  step-at a l (draw Closing s c) run h = record { kept = h }
-  step-at a l (last_pair Waiting s p) run h = record { kept = h }
-  step-at a l (last_pair Heard s p) run h = record { kept = h }
-  step-at a l (last_pair Closing s p) None h = record { kept = h }
-  step-at a l (last_pair Closing s p) (Some e) h = last_good a l s p e e.stage h
-  step-at a l (withdrawal sort s) None h = record { kept = h }
-  step-at a l (withdrawal sort s) (Some e) h =
+  step_at a l (opening k z) (Some e) h = record { kept = h }
+  step_at a l (message Waiting s m) None h = record { kept = h }
+  step_at a l (message Waiting s m) (Some e) h = message_good a l s m e e.stage h
+  step_at a l (message Heard s m) run h = record { kept = h }
+  step_at a l (message Closing s m) run h = record { kept = h }
+  step_at a l (draw Waiting s c) run h = record { kept = h }
+  step_at a l (draw Heard s c) None h = record { kept = h }
+  step_at a l (draw Heard s c) (Some e) h = draw_good a l s c e e.stage h
+  step_at a l (draw Closing s c) run h = record { kept = h }
+  step_at a l (last_pair Waiting s p) run h = record { kept = h }
+  step_at a l (last_pair Heard s p) run h = record { kept = h }
+  step_at a l (last_pair Closing s p) None h = record { kept = h }
+  step_at a l (last_pair Closing s p) (Some e) h = last_good a l s p e e.stage h
+  step_at a l (withdrawal sort s) None h = record { kept = h }
+  step_at a l (withdrawal sort s) (Some e) h =
       good_cond (of_sort e.stage sort && same_numbers s (numbers_at l.number l.page e.rounds)) (λ fits. record { kept = tt }) (record { kept = h })
-  step-at a l page_turn None h = record { kept = tt }
-  step-at a l page_turn (Some e) h = record { kept = h }
+  step_at a l page_turn None h = record { kept = tt }
+  step_at a l page_turn (Some e) h = record { kept = h }
 
-  pub step-holds : (a : Option Answer) (l : Ledger M) (x : Call M E) → Holds a l → Holds (newer a (step kind l x).answer) (step kind l x).ledger
-  step-holds a l x h = (step-at a l x l.running h).kept
+  pub step_holds : (a : Option Answer) (l : Ledger M) (x : Call M E) → Holds a l → Holds (newer a (step kind l x).answer) (step kind l x).ledger
+  step_holds a l x h = (step_at a l x l.running h).kept
 
 pub closing_last : {M : Type 0} (st : Stage M) → of_sort st Closing ≡ true → st ≡ ForLast
 closing_last ForMessage h = cc

@@ -25,8 +25,8 @@ bits = 0 ∷ (replicate 1 0 ++ (replicate 2 1 ++ (replicate 4 2 ++ (replicate 8 
 abbrev right : ℕ → ℕ → Bool
 right k x = cond (eqb k 0) (eqb x 0) (both (leb (2 ^ x) k) (ltb k (2 ^ x + 2 ^ x)))
 
-right-at : (k : ℕ) → k < 256 → T (right k (get_or bits k 0))
-right-at = at right bits tt
+right_at : (k : ℕ) → k < 256 → T (right k (get_or bits k 0))
+right_at = at right bits tt
 
 means : (k x : ℕ) (b : Bool) → eqb k 0 ≡ b → T (cond b (eqb x 0) (both (leb (2 ^ x) k) (ltb k (2 ^ x + 2 ^ x)))) → HighestBit k x
 means k x true e t = record {
@@ -41,4 +41,4 @@ means k x false e t = record {
 }
 
 pub highest_bit : (k : ℕ) → k < 256 → HighestBit k (get_or bits k 0)
-highest_bit k h = means k (get_or bits k 0) (eqb k 0) refl (right-at k h)
+highest_bit k h = means k (get_or bits k 0) (eqb k 0) refl (right_at k h)

@@ -11,7 +11,7 @@ use Rattle.kind.specs.Kinds.{Meaning, Lawful, elements, AllElements}
 use Rattle.kind.specs.Products.{entries_refusal}
 use Rattle.kind.specs.declared.pair.Pair.{Pair}
 use Rattle.kind.proofs.Listed.{length-elements, all_checked}
-use Rattle.kind.proofs.Steps.{both-went, held, unwrapped, AllPass, none, more, all_pass}
+use Rattle.kind.proofs.Steps.{both_went, held, unwrapped, AllPass, none, more, all_pass}
 use Rattle.method.specs.Meaning.{size_refusal, length_refusal, room_refusal, scalar_refusal, length_refusals, content_refusals, reduced, method_refused, verdict_of}
 use Rattle.method.specs.QuickCheck.{quick_lengths, quick_content, weight_refusal, quick_refused, quick_passes, QuickDecides}
 use Rattle.method.specs.declared.fault.MethodFault.TheVariants.{Length, Room, Kind, NotAChallenge}
@@ -22,25 +22,25 @@ no_fault (Err f) v u e = (cc, cc)
 
 -- what is known where nothing is refused
 pub record QuickShaped (n g elements numbers : ℕ) : Type 0 where
-  pub fits-g : g ≡ n
+  pub fits_g : g ≡ n
   pub room_e : n ≤ elements
   pub room_n : n ≤ numbers
 
 pub quick_shaped : (n g elements numbers : ℕ) → first_of (quick_lengths n g elements numbers) ≡ Ok tt → QuickShaped n g elements numbers
 quick_shaped n g elements numbers e =
-    let a = both-went (size_refusal g) _ tt e in
-    let c = both-went (length_refusal n g) _ tt a.2 in
-    let f = both-went (room_refusal n elements) _ tt c.2 in
-    let l = both-went (room_refusal n numbers) _ tt f.2 in
+    let a = both_went (size_refusal g) _ tt e in
+    let c = both_went (length_refusal n g) _ tt a.2 in
+    let f = both_went (room_refusal n elements) _ tt c.2 in
+    let l = both_went (room_refusal n numbers) _ tt f.2 in
     record {
-      fits-g = eqb-true g n (held (eqb g n) (Length g) c.0 c.1);
+      fits_g = eqb-true g n (held (eqb g n) (Length g) c.0 c.1);
       room_e = leb-true n elements (held (leb n elements) (Room elements) f.0 f.1);
       room_n = leb-true n numbers (held (leb n numbers) (Room numbers) l.0 l.1);
     }
 
 pub quick_all : {M E : Type 0} (s : Meaning M E) (laws : Lawful s) (gs : List E) (a b w : ℕ) → first_of (quick_content s gs a b w) ≡ Ok tt → AllElements s gs
 quick_all s laws gs a b w e =
-    let p = both-went (wrapped Kind (entries_refusal s gs) 0) _ tt e in
+    let p = both_went (wrapped Kind (entries_refusal s gs) 0) _ tt e in
     all_checked s laws gs (unwrapped Kind (entries_refusal s gs) 0 p.0 p.1)
 
 module _ {M E : Type 0} (s : Meaning M E) (laws : Lawful s) (cs ws : List ℕ) (good : HWeights s.order (reduced s cs) ws)
@@ -56,14 +56,14 @@ module _ {M E : Type 0} (s : Meaning M E) (laws : Lawful s) (cs ws : List ℕ) (
 
   fine : (w : ℕ) → quick_refused s cs gs a b w we wn ≡ Ok tt → Fine w
   fine w e =
-      let p1 = both-went (size_refusal (length gs)) _ tt e in
-      let p2 = both-went (length_refusal n (length gs)) _ tt p1.2 in
-      let p3 = both-went (room_refusal n we) _ tt p2.2 in
-      let p4 = both-went (room_refusal n wn) _ tt p3.2 in
-      let p5 = both-went (wrapped Kind (entries_refusal s gs) 0) _ tt p4.2 in
-      let p6 = both-went (scalar_refusal s a) _ tt p5.2 in
-      let p7 = both-went (scalar_refusal s b) _ tt p6.2 in
-      let p8 = both-went (weight_refusal s w) _ tt p7.2 in
+      let p1 = both_went (size_refusal (length gs)) _ tt e in
+      let p2 = both_went (length_refusal n (length gs)) _ tt p1.2 in
+      let p3 = both_went (room_refusal n we) _ tt p2.2 in
+      let p4 = both_went (room_refusal n wn) _ tt p3.2 in
+      let p5 = both_went (wrapped Kind (entries_refusal s gs) 0) _ tt p4.2 in
+      let p6 = both_went (scalar_refusal s a) _ tt p5.2 in
+      let p7 = both_went (scalar_refusal s b) _ tt p6.2 in
+      let p8 = both_went (weight_refusal s w) _ tt p7.2 in
       let t = both_true (ltb 0 w) (ltb w s.order) (held (ltb 0 w && ltb w s.order) (NotAChallenge 0) p8.0 p8.1) in
       let row : AllPass (length_refusals n (length gs) (length gs) we wn ++ content_refusals s gs gs a b) =
       more p1.1 (more p1.1 (more p2.1 (more p2.1 (more p3.1 (more p4.1 (more p5.1 (more p5.1 (more p6.1 (more p7.1 none))))))))) in
@@ -114,8 +114,8 @@ module _ {M E : Type 0} (s : Meaning M E) (laws : Lawful s) (cs ws : List ℕ) (
         let qw = no_fault (quick_refused s cs gs a b w we wn) (quick_passes s ws z gs k a b w) true pw in
         let fv = fine v qv.0 in
         let fw = fine w qw.0 in
-        let no-pass = no_fault (method_refused s cs gs gs a b we wn) (verdict_of s cs z gs gs k a b) false m in
+        let no_pass = no_fault (method_refused s cs gs gs a b we wn) (verdict_of s cs z gs gs k a b) false m in
         (decided fv.long).at_most_one
-        (λ h. let z : ◌≡◌ {A = ℕ} 0 1 = ap (λ c. cond c 0 1) (sym (holds_verdict h) ∙ no-pass.1) in omega arith)
+        (λ h. let z : ◌≡◌ {A = ℕ} 0 1 = ap (λ c. cond c 0 1) (sym (holds_verdict h) ∙ no_pass.1) in omega arith)
         v w fv.small fw.small (quick_holds v qv.1) (quick_holds w qw.1);
   }

@@ -23,14 +23,14 @@ counted t =
     length-take-le t.len t.entries (omega arith)
 
 -- one more at the end of a list that has no bad entry
-pub bad-push : {X F : Type 0} (bad : X → Bool) (fault : ℕ → F) (i : ℕ) (xs : List X) (y : X) → any_bad bad xs ≡ false
+pub bad_push : {X F : Type 0} (bad : X → Bool) (fault : ℕ → F) (i : ℕ) (xs : List X) (y : X) → any_bad bad xs ≡ false
     → first_bad bad fault i (xs ++ y ∷ []) ≡ cond (bad y) (Err (fault (i + length xs))) (Ok tt)
-bad-push bad fault i [] y h = ap (λ (n : ℕ). cond (bad y) (Err (fault n)) (Ok tt)) (sym (add-zero i))
-bad-push bad fault i (x ∷ xs) y h =
+bad_push bad fault i [] y h = ap (λ (n : ℕ). cond (bad y) (Err (fault n)) (Ok tt)) (sym (add-zero i))
+bad_push bad fault i (x ∷ xs) y h =
     let p = neither (bad x) (any_bad bad xs) h in
     let at : i + 1 + length xs ≡ i + suc (length xs) = omega arith in
     ap (λ b. cond b (Err (fault i)) (first_bad bad fault (i + 1) (xs ++ y ∷ []))) p.0
-    ∙ bad-push bad fault (i + 1) xs y p.1 ∙ ap (λ (n : ℕ). cond (bad y) (Err (fault n)) (Ok tt)) at
+    ∙ bad_push bad fault (i + 1) xs y p.1 ∙ ap (λ (n : ℕ). cond (bad y) (Err (fault n)) (Ok tt)) at
   where
     neither : (a b : Bool) → (a || b) ≡ false → (a ≡ false) × (b ≡ false)
     neither true b e = (cc, cc)
@@ -46,12 +46,12 @@ any_push bad (x ∷ xs) y h g = go (λ e. any_push bad xs y e g) (bad x) h
     go next false e = next e
 
 -- a table takes a challenge in range while it has room
-pub table-takes : (t : ChallengeTable) (c : ℕ) → length (challenges t) < 8 → outside c ≡ false
+pub table_takes : (t : ChallengeTable) (c : ℕ) → length (challenges t) < 8 → outside c ≡ false
     → table_answer (challenges t ++ c ∷ []) ≡ Ok (challenges t ++ c ∷ [])
-table-takes t c room fine =
+table_takes t c room fine =
     let cs : List ℕ = challenges t in
     let long : length (cs ++ c ∷ []) ≡ length cs + 1 = length-append cs (c ∷ []) in
     let few : leb (length (cs ++ c ∷ [])) 8 ≡ true = le-leb (length (cs ++ c ∷ [])) 8 (omega arith) in
     let good : first_bad outside NotAChallenge 0 (cs ++ c ∷ []) ≡ Ok tt =
-    bad-push outside NotAChallenge 0 cs c t.ok.2 ∙ ap (λ b. cond b (Err (NotAChallenge (0 + length cs))) (Ok tt)) fine in
+    bad_push outside NotAChallenge 0 cs c t.ok.2 ∙ ap (λ b. cond b (Err (NotAChallenge (0 + length cs))) (Ok tt)) fine in
     simp (few, good)

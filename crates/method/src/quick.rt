@@ -1,10 +1,10 @@
 // The quick check: both equations of a last pair in one, by a weight, over one list for G and H.
 ghost use Rattle.std.specs.Prelude.{◌≡◌, ℕ, ◌+◌, ◌*◌, ◌^◌, ◌≤◌, List, length, replicate};
 ghost use Rattle.std.specs.Simd.Lanes.{zip2};
-ghost use Rattle.protocol.specs.Group.{power as power-of, product as product-of};
+ghost use Rattle.protocol.specs.Group.{power as power_of, product as product_of};
 ghost use Rattle.protocol.specs.Weights.{HWeights, g_weights};
 ghost use Rattle.kind.specs.Faults.{first_of};
-ghost use Rattle.kind.specs.Kinds.{elements as elements-of, unit_entry, AllElements};
+ghost use Rattle.kind.specs.Kinds.{elements as elements_of, unit_entry, AllElements};
 ghost use Rattle.method.specs.Meaning.{reduced, cleared};
 ghost use Rattle.method.specs.QuickCheck.{weight_refusal, quick_lengths, quick_content, quick_passes, quick_answer};
 ghost use Rattle.method.specs.Tables.{challenges};
@@ -59,7 +59,7 @@ fn check_quick_content<K: Kind>(
 
 // a x + e y, modulo the order.
 fn sum_of_products<K: Kind>(a: u32, x: u32, e: u32, y: u32) -> u32
-    ensures { (z : K) → power-of K.Kind.meaning.group z result ≡ power-of K.Kind.meaning.group z (a * x + e * y) }
+    ensures { (z : K) → power_of K.Kind.meaning.group z result ≡ power_of K.Kind.meaning.group z (a * x + e * y) }
 {
     (mul_scalars::<K>(a, x) + mul_scalars::<K>(e, y)) % K::order()
 }
@@ -68,7 +68,7 @@ fn sum_of_products<K: Kind>(a: u32, x: u32, e: u32, y: u32) -> u32
 fn join_weighted<K: Kind>(g: &[K::Entry], ws: &[u32], a: u32, e: u32) -> K
     requires checked { AllElements K.Kind.meaning g.now }
     requires long { length ws.now ≡ length g.now }
-    ensures { result ≡ product-of K.Kind.meaning.group (elements-of K.Kind.meaning g.now) (zip2 (λ x y. a * x + e * y) (g_weights ws.now) ws.now) }
+    ensures { result ≡ product_of K.Kind.meaning.group (elements_of K.Kind.meaning g.now) (zip2 (λ x y. a * x + e * y) (g_weights ws.now) ws.now) }
 {
     let n = g.len();
     let mut total = K::unit();

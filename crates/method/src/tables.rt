@@ -2,7 +2,7 @@
 ghost use Rattle.std.specs.Prelude.{◌≡◌, ◌-◌, ◌^◌, ◌≤◌, [], ◌∷◌, ◌++◌, length, replicate};
 ghost use Rattle.kind.specs.Faults.{first_bad};
 ghost use Rattle.method.specs.Entries.{outside};
-ghost use Rattle.method.specs.Tables.{challenges as challenges-of, listed, table_answer};
+ghost use Rattle.method.specs.Tables.{challenges as challenges_of, listed, table_answer};
 ghost use Rattle.method.specs.declared.fault.MethodFault.TheVariants.{NotAChallenge};
 
 use crate::fault::MethodFault;
@@ -53,7 +53,7 @@ impl ChallengeTable {
 
     // A table with no challenges yet.
     pub fn empty() -> ChallengeTable
-        ensures { challenges-of result ≡ [] }
+        ensures { challenges_of result ≡ [] }
     {
         ChallengeTable {
             entries: [0; 8],
@@ -63,7 +63,7 @@ impl ChallengeTable {
 
     // The table with one challenge more at its end, as if it were made of all of them.
     pub fn with(self, c: u32) -> Result<ChallengeTable, MethodFault>
-        ensures { listed result ≡ table_answer (challenges-of self ++ c ∷ []) }
+        ensures { listed result ≡ table_answer (challenges_of self ++ c ∷ []) }
     {
         if self.len >= 8 {
             return Err(MethodFault::TooManyRounds);
@@ -80,7 +80,7 @@ impl ChallengeTable {
     }
 
     pub fn challenges(&self) -> &[u32]
-        ensures value { result.now ≡ challenges-of self.now }
+        ensures value { result.now ≡ challenges_of self.now }
         ensures few { length result.now ≤ 8 }
     {
         let (front, _) = cut(&self.entries, self.len);

@@ -15,18 +15,18 @@ module _ {X : Type 0} (F : List X → List ℕ) (xs : List X) (whole : List ℕ)
       ∙ ap (λ ys. out ++ F ys) (sym (drop_more xs i d h))
       ∙ s
 
-  pub laid-all : (i : ℕ) (out : List ℕ) → length xs ≤ i → F [] ≡ [] → out ++ F (drop i xs) ≡ whole → out ≡ whole
-  laid-all i out h none s =
+  pub laid_all : (i : ℕ) (out : List ℕ) → length xs ≤ i → F [] ≡ [] → out ++ F (drop i xs) ≡ whole → out ≡ whole
+  laid_all i out h none s =
       sym (append-nil out) ∙ ap (λ bs. out ++ bs) (sym none) ∙ ap (λ ys. out ++ F ys) (sym (drop_all i xs h)) ∙ s
 
-pub laid-two : (out mid next u v x y : List ℕ) → mid ≡ out ++ u → next ≡ mid ++ v → u ≡ x → v ≡ y → next ≡ out ++ (x ++ y)
-laid-two out mid next u v x y p q e f = let s = append_assoc out x y in cc
+pub laid_two : (out mid next u v x y : List ℕ) → mid ≡ out ++ u → next ≡ mid ++ v → u ≡ x → v ≡ y → next ≡ out ++ (x ++ y)
+laid_two out mid next u v x y p q e f = let s = append_assoc out x y in cc
 
-pub total-more : (ns : List ℕ) (i : ℕ) → i < length ns → total (drop i ns) ≡ get_or ns i 0 + total (drop (i + 1) ns)
-total-more ns i h = ap total (drop_more ns i 0 h)
+pub total_more : (ns : List ℕ) (i : ℕ) → i < length ns → total (drop i ns) ≡ get_or ns i 0 + total (drop (i + 1) ns)
+total_more ns i h = ap total (drop_more ns i 0 h)
 
-pub total-all : (ns : List ℕ) (i : ℕ) → length ns ≤ i → total (drop i ns) ≡ 0
-total-all ns i h = ap total (drop_all i ns h)
+pub total_all : (ns : List ℕ) (i : ℕ) → length ns ≤ i → total (drop i ns) ≡ 0
+total_all ns i h = ap total (drop_all i ns h)
 
 module _ (ns : List ℕ) where
   pub too_many : 2 ^ 16 ≤ length ns → None ≡ directory_of ns

@@ -15,8 +15,8 @@ use Rattle.writer.proofs.Lengths.{record_long}
 use Rattle.proof_write.specs.Proofs.{record_over}
 use Rattle.proof_write.specs.declared.groups.Group.{Group}
 
-clear-written : WellWritten clear_writing
-clear-written = record {
+clear_written : WellWritten clear_writing
+clear_written = record {
   some = lit≤ tt;
   few = lit≤ tt;
   filled = λ x. refl;
@@ -25,14 +25,14 @@ clear-written = record {
 }
 
 -- what stands at the start of the output, where the answer is the length of what was written
-begun-taken : {F : Type 0} (bs out after : List ℕ) (m : ℕ) (x : Result Unit F) (r : Result ℕ F) → length bs ≡ m
+begun_taken : {F : Type 0} (bs out after : List ℕ) (m : ℕ) (x : Result Unit F) (r : Result ℕ F) → length bs ≡ m
     → r ≡ and_then x (λ _. Ok m) → after ≡ begun r bs out → IfOk r (λ n. take n after ≡ bs)
-begun-taken bs out after m (Ok u) (Ok n) long e s =
+begun_taken bs out after m (Ok u) (Ok n) long e s =
     let k : n ≡ m = cc in ap (take n) s ∙ take_at bs (drop (length bs) out) n (long ∙ sym k)
-begun-taken bs out after m (Err f) (Ok n) long e s =
+begun_taken bs out after m (Err f) (Ok n) long e s =
     let no : ◌≡◌ {A = ℕ} 0 1 = cc in let never : ⊥ = omega arith in elim never [ ]
-begun-taken bs out after m (Ok u) (Err f) long e s = tt
-begun-taken bs out after m (Err g) (Err f) long e s = tt
+begun_taken bs out after m (Ok u) (Err f) long e s = tt
+begun_taken bs out after m (Err g) (Err f) long e s = tt
 
 pub wrote : {F : Type 0} (g : Group) (key : Clear) (bases q p cs out after : List ℕ) (x : Result Unit F) (r : Result ℕ F)
     → key ≡ clear_meaning.base → q ≡ vec_items g.quantities → p ≡ vec_items g.prices → cs ≡ vec_items g.challenges
@@ -48,5 +48,5 @@ wrote g key bases q p cs out after x r ek eq ep ec e s =
     ∙ ap (λ m. at clear_meaning.base (vec_items g.quantities) m cs) ep
     ∙ ap (λ c. at clear_meaning.base (vec_items g.quantities) (vec_items g.prices) c) ec in
     IfOk-weaker r (λ n. take n after ≡ at key q p cs) (λ n. take n after ≡ record_over bases g) (λ n h. h ∙ same)
-    (begun-taken (at key q p cs) out after (record_length 4 (length cs)) x r
-    (record_long clear_meaning clear_writing clear-written key cs (lists_of clear_meaning bases bases q p)) e s)
+    (begun_taken (at key q p cs) out after (record_length 4 (length cs)) x r
+    (record_long clear_meaning clear_writing clear_written key cs (lists_of clear_meaning bases bases q p)) e s)

@@ -6,17 +6,17 @@ use Rattle.protocol.specs.Group.{Group, power, Laws, product}
 use Rattle.protocol.specs.Halving.{dot, Standing, Sized, TrueClaim, fold_commitment, fold_g, fold_h, fold_l, fold_r, first_half, last_half, claim2, round, rounds, LastPasses}
 use Rattle.protocol.proofs.Rows.{Rows, rows}
 use Rattle.protocol.proofs.Powers.{unit_right, left_comm, pow-add, pow-op, pow-mod}
-use Rattle.protocol.proofs.Folding.{folded-g, folded-h, folded-dot}
+use Rattle.protocol.proofs.Folding.{folded_g, folded_h, folded_dot}
 
 dot-nil : (l : List ℕ) → dot l [] ≡ 0
 dot-nil [] = refl
 dot-nil (x ∷ l) = refl
 
-dot-halves : (m : ℕ) (l r : List ℕ) → dot l r ≡ dot (take m l) (take m r) + dot (drop m l) (drop m r)
-dot-halves zero l r = sym (zero-add (dot l r))
-dot-halves (suc m) [] r = refl
-dot-halves (suc m) (x ∷ l) [] = sym (zero-add _ ∙ dot-nil (drop m l))
-dot-halves (suc m) (x ∷ l) (y ∷ r) = ap (λ n. x * y + n) (dot-halves m l r) ∙ sym (add_assoc (x * y) (dot (take m l) (take m r)) (dot (drop m l) (drop m r)))
+dot_halves : (m : ℕ) (l r : List ℕ) → dot l r ≡ dot (take m l) (take m r) + dot (drop m l) (drop m r)
+dot_halves zero l r = sym (zero-add (dot l r))
+dot_halves (suc m) [] r = refl
+dot_halves (suc m) (x ∷ l) [] = sym (zero-add _ ∙ dot-nil (drop m l))
+dot_halves (suc m) (x ∷ l) (y ∷ r) = ap (λ n. x * y + n) (dot_halves m l r) ∙ sym (add_assoc (x * y) (dot (take m l) (take m r)) (dot (drop m l) (drop m r)))
 
 dot-one : (l r : List ℕ) → length l ≡ 1 → length r ≡ 1 → dot l r ≡ get_or l 0 0 * get_or r 0 0
 dot-one [] r p q = absurd (omega arith)
@@ -24,9 +24,9 @@ dot-one (a ∷ l) [] p q = absurd (omega arith)
 dot-one (a ∷ []) (b ∷ r) p q = add-zero (a * b)
 dot-one (a ∷ (x ∷ l)) (b ∷ r) p q = absurd (omega arith)
 
-pub half-rows : {A B : Type 0} (m : ℕ) (xs : List A) (ys : List B) → length xs ≡ m + m → length ys ≡ m + m
+pub half_rows : {A B : Type 0} (m : ℕ) (xs : List A) (ys : List B) → length xs ≡ m + m → length ys ≡ m + m
     → Rows (take m xs) (drop m xs) (take m ys) (drop m ys)
-half-rows m xs ys p q =
+half_rows m xs ys p q =
     rows (take m xs) (drop m xs) (take m ys) (drop m ys)
     (simp (length-take, length-drop) (omega arith)) (simp length-take (omega arith)) (simp (length-take, length-drop) (omega arith))
 
@@ -39,12 +39,12 @@ module _ {E : Type 0} {q : ℕ} {o : Group E} (laws : Laws q o) where
   prod-nil [] = refl
   prod-nil (g ∷ gs) = refl
 
-  pub prod-halves : (m : ℕ) (gs : List E) (es : List ℕ)
+  pub prod_halves : (m : ℕ) (gs : List E) (es : List ℕ)
       → product o gs es ≡ o.join (product o (take m gs) (take m es)) (product o (drop m gs) (drop m es))
-  prod-halves zero gs es = sym (laws.unit_left (product o gs es))
-  prod-halves (suc m) [] es = sym (laws.unit_left o.unit)
-  prod-halves (suc m) (g ∷ gs) [] = sym (laws.unit_left _ ∙ prod-nil (drop m gs))
-  prod-halves (suc m) (g ∷ gs) (e ∷ es) = ap (o.join (power o g e)) (prod-halves m gs es) ∙ sym (laws.assoc _ _ _)
+  prod_halves zero gs es = sym (laws.unit_left (product o gs es))
+  prod_halves (suc m) [] es = sym (laws.unit_left o.unit)
+  prod_halves (suc m) (g ∷ gs) [] = sym (laws.unit_left _ ∙ prod-nil (drop m gs))
+  prod_halves (suc m) (g ∷ gs) (e ∷ es) = ap (o.join (power o g e)) (prod_halves m gs es) ∙ sym (laws.assoc _ _ _)
 
   prod-one : (gs : List E) (es : List ℕ) → length gs ≡ 1 → length es ≡ 1 → product o gs es ≡ power o (get_or gs 0 o.unit) (get_or es 0 0)
   prod-one [] es p q = absurd (omega arith)
@@ -52,9 +52,9 @@ module _ {E : Type 0} {q : ℕ} {o : Group E} (laws : Laws q o) where
   prod-one (g ∷ []) (e ∷ es) p q = unit_right laws (power o g e)
   prod-one (g ∷ (x ∷ gs)) (e ∷ es) p q = absurd (omega arith)
 
-  fold-side-op : (c : ℕ) (p s t p' s' t' : E)
+  fold_side_op : (c : ℕ) (p s t p' s' t' : E)
       → o.join (fold_commitment q o c p s t) (fold_commitment q o c p' s' t') ≡ fold_commitment q o c (o.join p p') (o.join s s') (o.join t t')
-  fold-side-op c p s t p' s' t' = simp (pow-op laws, laws.assoc, laws.comm, left_comm laws)
+  fold_side_op c p s t p' s' t' = simp (pow-op laws, laws.assoc, laws.comm, left_comm laws)
 
   fold_same : (c : ℕ) {p s t p' s' t' : E} → p ≡ p' → s ≡ s' → t ≡ t' → fold_commitment q o c p s t ≡ fold_commitment q o c p' s' t'
   fold_same c ep es et = λ i. fold_commitment q o c (ep i) (es i) (et i)
@@ -66,7 +66,7 @@ module _ {E : Type 0} {q : ℕ} {o : Group E} (laws : Laws q o) where
       let eg : length gs / 2 ≡ m = omega arith in
       let el : length l / 2 ≡ m = omega arith in
       rw (eg, el)
-      (folded-g laws c (half-rows m gs l hg hl) ∙ fold_same c refl (sym (prod-halves m gs l)) refl)
+      (folded_g laws c (half_rows m gs l hg hl) ∙ fold_same c refl (sym (prod_halves m gs l)) refl)
 
   keeps_two : (k : E) (c m : ℕ) (hs : List E) (l r : List ℕ) → length hs ≡ m + m → length l ≡ m + m → length r ≡ m + m
       → claim2 q o k (fold_h q o c hs) (fold_l q o c l) (fold_r q o c r)
@@ -76,11 +76,11 @@ module _ {E : Type 0} {q : ℕ} {o : Group E} (laws : Laws q o) where
       let el : length l / 2 ≡ m = omega arith in
       let er : length r / 2 ≡ m = omega arith in
       rw (eh, el, er)
-      (ap₂ o.join (folded-h laws c (half-rows m hs r hh hr)) (pow-mod laws k _ ∙ folded-dot laws c k (half-rows m l r hl hr))
-      ∙ fold-side-op c _ _ _ _ _ _
+      (ap₂ o.join (folded_h laws c (half_rows m hs r hh hr)) (pow-mod laws k _ ∙ folded_dot laws c k (half_rows m l r hl hr))
+      ∙ fold_side_op c _ _ _ _ _ _
       ∙ sym (fold_same c
       (ap (o.join _) (pow-mod laws k (dot (drop m l) (take m r))))
-      (ap₂ o.join (prod-halves m hs r) (pow-mod laws k (dot l r) ∙ ap (power o k) (dot-halves m l r) ∙ pow-add laws k _ _))
+      (ap₂ o.join (prod_halves m hs r) (pow-mod laws k (dot l r) ∙ ap (power o k) (dot_halves m l r) ∙ pow-add laws k _ _))
       (ap (o.join _) (pow-mod laws k (dot (take m l) (drop m r))))))
 
   pub keeps : (k : E) (c m : ℕ) (s : Standing E) → Sized (m + m) s → TrueClaim q o k s → Sized m (round q o k c s) × TrueClaim q o k (round q o k c s)

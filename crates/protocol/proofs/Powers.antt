@@ -41,13 +41,13 @@ module _ {E : Type 0} {q : ℕ} {o : Group E} (laws : Laws q o) where
       sym (ap (power o x) (sym (div-add-mod e q)) ∙ pow-add x (q * (e / q)) (e % q) ∙ ap (λ y. o.join y (power o x (e % q))) whole ∙ laws.unit_left (power o x (e % q)))
 
   -- a power of a square, for powers by squaring
-  pow-square : (x : E) (n : ℕ) → power o (o.join x x) n ≡ power o x (n + n)
-  pow-square x n = pow-op x x n ∙ sym (pow-add x n n)
+  pow_square : (x : E) (n : ℕ) → power o (o.join x x) n ≡ power o x (n + n)
+  pow_square x n = pow-op x x n ∙ sym (pow-add x n n)
 
   pub halve_even : (x : E) (n : ℕ) → n % 2 ≡ 0 → power o x n ≡ power o (o.join x x) (n / 2)
-  halve_even x n h = let e : n ≡ n / 2 + n / 2 = omega arith in ap (power o x) e ∙ sym (pow-square x (n / 2))
+  halve_even x n h = let e : n ≡ n / 2 + n / 2 = omega arith in ap (power o x) e ∙ sym (pow_square x (n / 2))
 
   pub halve_odd : (x : E) (n : ℕ) → n % 2 ≡ 1 → power o x n ≡ o.join x (power o (o.join x x) (n / 2))
   halve_odd x n h =
       let e : n ≡ suc (n / 2 + n / 2) = omega arith in
-      ap (power o x) e ∙ pow-suc o x (n / 2 + n / 2) ∙ ap (o.join x) (sym (pow-square x (n / 2)))
+      ap (power o x) e ∙ pow-suc o x (n / 2 + n / 2) ∙ ap (o.join x) (sym (pow_square x (n / 2)))

@@ -18,17 +18,17 @@ module _ {E : Type 0} {q : ℕ} {o : Group E} (laws : Laws q o) where
   step a e g x y s t = simp (pow-add laws, pow-op laws, pow-pow laws, mul_comm, laws.assoc, laws.comm, left_comm laws)
 
   -- one row under two rows of weights
-  both-weights : (a e : ℕ) {gs hs : List E} {xs ys : List ℕ} → Rows gs hs xs ys
+  both_weights : (a e : ℕ) {gs hs : List E} {xs ys : List ℕ} → Rows gs hs xs ys
       → product o gs (zip2 (λ x y. a * x + e * y) xs ys) ≡ o.join (power o (product o gs xs) a) (power o (product o gs ys) e)
-  both-weights a e none = sym (ap₂ o.join (pow-unit laws a) (pow-unit laws e) ∙ laws.unit_left o.unit)
-  both-weights a e (more {x = g} {a = x} {b = y} rest) = ap (o.join _) (both-weights a e rest) ∙ step a e g x y _ _
+  both_weights a e none = sym (ap₂ o.join (pow-unit laws a) (pow-unit laws e) ∙ laws.unit_left o.unit)
+  both_weights a e (more {x = g} {a = x} {b = y} rest) = ap (o.join _) (both_weights a e rest) ∙ step a e g x y _ _
 
   -- the second scalar may be reduced first
   pub weighted_mod : (a e : ℕ) (gs : List E) (xs ys : List ℕ) → length xs ≡ length gs → length ys ≡ length gs
       → product o gs (zip2 (λ x y. a * x + e % q * y) xs ys) ≡ product o gs (zip2 (λ x y. a * x + e * y) xs ys)
   weighted_mod a e gs xs ys hx hy =
       let four = rows gs gs xs ys refl hx hy in
-      both-weights a (e % q) four ∙ ap (o.join (power o (product o gs xs) a)) (pow-mod laws (product o gs ys) e) ∙ sym (both-weights a e four)
+      both_weights a (e % q) four ∙ ap (o.join (power o (product o gs xs) a)) (pow-mod laws (product o gs ys) e) ∙ sym (both_weights a e four)
 
   gather : (k g h : E) (a b w : ℕ) → o.join (o.join (power o g a) (power o h (w * b))) (power o k (w * a * b)) ≡ o.join (power o g a) (power o (o.join (power o h b) (power o k (a * b))) w)
   gather k g h a b w = simp (pow-op laws, pow-pow laws, mul_assoc, mul_comm, laws.assoc)
@@ -41,19 +41,19 @@ module _ {E : Type 0} {q : ℕ} {o : Group E} (laws : Laws q o) where
     abbrev Both : Type 0
     Both = Passes q o k (product o gs gw) (product o gs hw) a b z1 z2
 
-    left-side : (w : ℕ)
+    left_side : (w : ℕ)
         → o.join (product o gs (zip2 (λ x y. a * x + w * b * y) gw hw)) (power o k (w * a * b))
         ≡ o.join (power o (product o gs gw) a) (power o (o.join (power o (product o gs hw) b) (power o k (a * b))) w)
-    left-side w =
-        ap (λ y. o.join y (power o k (w * a * b))) (both-weights a (w * b) (rows gs gs gw hw refl hg hh))
+    left_side w =
+        ap (λ y. o.join y (power o k (w * a * b))) (both_weights a (w * b) (rows gs gs gw hw refl hg hh))
         ∙ gather k (product o gs gw) (product o gs hw) a b w
 
     pub holds : Both → (w : ℕ) → At w
-    holds p w = left-side w ∙ ap₂ (λ y z. o.join y (power o z w)) p.one p.two
+    holds p w = left_side w ∙ ap₂ (λ y z. o.join y (power o z w)) p.one p.two
 
     pub shows : (v w : ℕ) → v < w → w < q → At v → At w → Both
     shows v w lt below hv hw' =
-        let both = two_equations laws _ _ z1 z2 v w lt below (sym (left-side v) ∙ hv) (sym (left-side w) ∙ hw') in
+        let both = two_equations laws _ _ z1 z2 v w lt below (sym (left_side v) ∙ hv) (sym (left_side w) ∙ hw') in
         record { one = both.0; two = both.1 }
 
     pub at_most_one : (Both → ⊥) → (v w : ℕ) → v < q → w < q → At v → At w → v ≡ w

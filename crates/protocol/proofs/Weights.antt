@@ -11,7 +11,7 @@ use Rattle.protocol.specs.Weights.{HWeights, g_weights}
 use Rattle.protocol.proofs.Rows.{Rows, none, more, rows}
 use Rattle.protocol.proofs.Powers.{unit_right, left_comm, pow-op, pow-pow, pow-mod}
 use Rattle.protocol.proofs.Order.{pow-one}
-use Rattle.protocol.proofs.Claims.{prod-halves, half_length}
+use Rattle.protocol.proofs.Claims.{prod_halves, half_length}
 
 -- the weights by halves: the top bit belongs to the first round
 abbrev pub times : ℕ → ℕ → ℕ → ℕ
@@ -30,11 +30,11 @@ map-reverse f (x ∷ xs) =
 double : (k : ℕ) → 2 ^ suc k ≡ 2 ^ k + 2 ^ k
 double k = rw pow-suc (omega arith)
 
-table-length : (q : ℕ) (cs : List ℕ) → length (table q cs) ≡ 2 ^ length cs
-table-length q [] = refl
-table-length q (c ∷ cs) =
+table_length : (q : ℕ) (cs : List ℕ) → length (table q cs) ≡ 2 ^ length cs
+table_length q [] = refl
+table_length q (c ∷ cs) =
     let e = double (length cs) in
-    let h = table-length q cs in
+    let h = table_length q cs in
     simp (length-append, length-map) (omega arith)
 
 -- the first half of the weights are those of the later challenges
@@ -81,25 +81,25 @@ weights_are q (c ∷ cs) ws h =
     sym (take-append-drop m ws) ∙ ap₂ ◌++◌ low (scaled q c cs ws h ∙ ap (map (times q c)) low)
 
 -- the table by halves keeps the rule by the highest one bit
-pub table-weights : (q : ℕ) (cs : List ℕ) → HWeights q cs (table q cs)
-table-weights q [] = record { count = refl; first = refl; rule = λ t i ht. absurd (omega arith) }
-table-weights q (c ∷ cs) =
+pub table_weights : (q : ℕ) (cs : List ℕ) → HWeights q cs (table q cs)
+table_weights q [] = record { count = refl; first = refl; rule = λ t i ht. absurd (omega arith) }
+table_weights q (c ∷ cs) =
     let m : ℕ = 2 ^ length cs in
     let low : List ℕ = table q cs in
     let high : List ℕ = map (times q c) low in
-    let h = table-weights q cs in
+    let h = table_weights q cs in
     let n : length low ≡ m = h.count in
-    let in-low : (i : ℕ) → i < m → get_or (low ++ high) i 0 ≡ get_or low i 0 = λ i hi. get_or_append_left low high 0 i (omega arith) in
+    let in_low : (i : ℕ) → i < m → get_or (low ++ high) i 0 ≡ get_or low i 0 = λ i hi. get_or_append_left low high 0 i (omega arith) in
     record {
-      count = table-length q (c ∷ cs);
-      first = in-low 0 (pow_pos (length cs)) ∙ h.first;
+      count = table_length q (c ∷ cs);
+      first = in_low 0 (pow_pos (length cs)) ∙ h.first;
       rule = λ t i ht hi. elim (dec_lt t (length cs)) [
         | yes lt ↦
             (let top : 2 ^ suc t ≤ m = pow_mono lt in
             let e = double t in
             let at : suc (length cs - 1 - t) ≡ suc (length cs) - 1 - t = omega arith in
-            in-low (2 ^ t + i) (omega arith) ∙ h.rule t i lt hi
-            ∙ ap₂ (λ x y. (x * y) % q) (sym (in-low i (omega arith))) (ap (λ j. get_or (c ∷ cs) j 0) at))
+            in_low (2 ^ t + i) (omega arith) ∙ h.rule t i lt hi
+            ∙ ap₂ (λ x y. (x * y) % q) (sym (in_low i (omega arith))) (ap (λ j. get_or (c ∷ cs) j 0) at))
         | no nlt ↦
             (let top : t ≡ length cs = omega arith in
             let small : i < m = subst (λ j. i < 2 ^ j) top hi in
@@ -107,28 +107,28 @@ table-weights q (c ∷ cs) =
             ap (λ j. get_or (low ++ high) j 0) (ap (λ j. 2 ^ j + i) top ∙ ap (λ j. j + i) (sym n))
             ∙ get_or-append-add low high i 0
             ∙ get_or-map (times q c) low i 0 0 (omega arith)
-            ∙ ap₂ (λ x y. (x * y) % q) (sym (in-low i small)) (ap (λ j. get_or (c ∷ cs) j 0) at))
+            ∙ ap₂ (λ x y. (x * y) % q) (sym (in_low i small)) (ap (λ j. get_or (c ∷ cs) j 0) at))
       ];
     }
 
 module _ {E : Type 0} {q : ℕ} {o : Group E} (laws : Laws q o) where
-  step-h : (c : ℕ) (x y : E) (w : ℕ) (s t : E)
+  step_h : (c : ℕ) (x y : E) (w : ℕ) (s t : E)
       → o.join (power o (o.join x (power o y c)) w) (o.join s t) ≡ o.join (o.join (power o x w) s) (o.join (power o y (times q c w)) t)
-  step-h c x y w s t = simp (pow-mod laws, pow-op laws, pow-pow laws, mul_comm, laws.assoc, laws.comm, left_comm laws)
+  step_h c x y w s t = simp (pow-mod laws, pow-op laws, pow-pow laws, mul_comm, laws.assoc, laws.comm, left_comm laws)
 
-  step-g : (c : ℕ) (x y : E) (w : ℕ) (s t : E)
+  step_g : (c : ℕ) (x y : E) (w : ℕ) (s t : E)
       → o.join (power o (o.join (power o x c) y) w) (o.join s t) ≡ o.join (o.join (power o x (times q c w)) s) (o.join (power o y w) t)
-  step-g c x y w s t = simp (pow-mod laws, pow-op laws, pow-pow laws, mul_comm, laws.assoc, laws.comm, left_comm laws)
+  step_g c x y w s t = simp (pow-mod laws, pow-op laws, pow-pow laws, mul_comm, laws.assoc, laws.comm, left_comm laws)
 
   out_h : (c : ℕ) {xs ys : List E} {ws vs : List ℕ} → Rows xs ys ws vs
       → product o (zip2 (λ x y. o.join x (power o y c)) xs ys) ws ≡ o.join (product o xs ws) (product o ys (map (times q c) ws))
   out_h c none = sym (laws.unit_left o.unit)
-  out_h c (more {x} {y} {a} rest) = ap (o.join _) (out_h c rest) ∙ step-h c x y a _ _
+  out_h c (more {x} {y} {a} rest) = ap (o.join _) (out_h c rest) ∙ step_h c x y a _ _
 
   out_g : (c : ℕ) {xs ys : List E} {ws vs : List ℕ} → Rows xs ys ws vs
       → product o (zip2 (λ x y. o.join (power o x c) y) xs ys) ws ≡ o.join (product o xs (map (times q c) ws)) (product o ys ws)
   out_g c none = sym (laws.unit_left o.unit)
-  out_g c (more {x} {y} {a} rest) = ap (o.join _) (out_g c rest) ∙ step-g c x y a _ _
+  out_g c (more {x} {y} {a} rest) = ap (o.join _) (out_g c rest) ∙ step_g c x y a _ _
 
   one_left : (w : ℕ) (xs : List E) → length xs ≡ 1 → w ≡ 1 → xs ≡ product o xs (w ∷ []) ∷ []
   one_left w [] h e = absurd (omega arith)
@@ -136,8 +136,8 @@ module _ {E : Type 0} {q : ℕ} {o : Group E} (laws : Laws q o) where
   one_left w (x ∷ (y ∷ xs)) h e = absurd (omega arith)
 
   -- rows of the halves of xs beside a list of weights for one half
-  half-weights : (m : ℕ) (xs : List E) (ws : List ℕ) → length xs ≡ m + m → length ws ≡ m → Rows (first_half xs) (last_half xs) ws ws
-  half-weights m xs ws hx hw =
+  half_weights : (m : ℕ) (xs : List E) (ws : List ℕ) → length xs ≡ m + m → length ws ≡ m → Rows (first_half xs) (last_half xs) ws ws
+  half_weights m xs ws hx hw =
       rows (first_half xs) (last_half xs) ws ws
       (simp (length-take, length-drop) (omega arith)) (simp (length-take) (omega arith)) (simp (length-take) (omega arith))
 
@@ -148,16 +148,16 @@ module _ {E : Type 0} {q : ℕ} {o : Group E} (laws : Laws q o) where
       let e : length xs / 2 ≡ m = omega arith in
       rw e
       (ap₂ (λ y z. o.join (product o (take m xs) y) (product o (drop m xs) z)) (sym (take_at us vs m hu)) (sym (drop_at us vs m hu))
-      ∙ sym (prod-halves laws m xs (us ++ vs)))
+      ∙ sym (prod_halves laws m xs (us ++ vs)))
 
   out_all_h : (cs : List ℕ) (xs : List E) → length xs ≡ 2 ^ length cs → folds_h q o cs xs ≡ product o xs (table q cs) ∷ []
   out_all_h [] xs h = one_left 1 xs h refl
   out_all_h (c ∷ cs) xs h =
       let m : ℕ = 2 ^ length cs in
       let n : length xs ≡ m + m = h ∙ double (length cs) in
-      let w : length (table q cs) ≡ m = table-length q cs in
+      let w : length (table q cs) ≡ m = table_length q cs in
       out_all_h cs (fold_h q o c xs) (half_length _ m xs n)
-      ∙ ap (λ y. y ∷ []) (out_h c (half-weights m xs (table q cs) n w) ∙ by_halves m xs (table q cs) (map (times q c) (table q cs)) n w)
+      ∙ ap (λ y. y ∷ []) (out_h c (half_weights m xs (table q cs) n w) ∙ by_halves m xs (table q cs) (map (times q c) (table q cs)) n w)
 
   out_all_g : (cs : List ℕ) (xs : List E) → length xs ≡ 2 ^ length cs → folds_g q o cs xs ≡ product o xs (reverse (table q cs)) ∷ []
   out_all_g [] xs h = one_left 1 xs h refl
@@ -165,12 +165,12 @@ module _ {E : Type 0} {q : ℕ} {o : Group E} (laws : Laws q o) where
       let m : ℕ = 2 ^ length cs in
       let n : length xs ≡ m + m = h ∙ double (length cs) in
       let ws : List ℕ = table q cs in
-      let w : length (reverse ws) ≡ m = length-reverse ws ∙ table-length q cs in
+      let w : length (reverse ws) ≡ m = length-reverse ws ∙ table_length q cs in
       let turned : map (times q c) (reverse ws) ++ reverse ws ≡ reverse (table q (c ∷ cs)) =
       sym (reverse-append ws (map (times q c) ws) ∙ ap (λ y. y ++ reverse ws) (map-reverse (times q c) ws)) in
       out_all_g cs (fold_g q o c xs) (half_length _ m xs n)
       ∙ ap (λ y. y ∷ [])
-      (out_g c (half-weights m xs (reverse ws) n w)
+      (out_g c (half_weights m xs (reverse ws) n w)
       ∙ by_halves m xs (map (times q c) (reverse ws)) (reverse ws) n (length-map (reverse ws) (times q c) ∙ w)
       ∙ ap (product o xs) turned)
 

@@ -1,6 +1,6 @@
 -- Answers passed up from the method's layer. Assumes nothing.
 use Rattle.std.proofs.Common.{◌≡◌, ℕ, zero, suc, ◌+◌, ◌*◌, ◌^◌, ◌<◌, ◌≤◌, Bool, true, false, cond, ◌&&◌, ◌||◌, eqb, ltb, leb, List, [], ◌∷◌, length, take, drop, Ok, Err, Result, sym, refl, ap, ◌∙◌, arith, ltb-true, le-ltb, ne_eqb, le-leb, leb-true}
-use Rattle.kind.proofs.Steps.{both-went, held, passed_on}
+use Rattle.kind.proofs.Steps.{both_went, held, passed_on}
 use Rattle.kind.specs.Both.{both_true}
 use Rattle.kind.specs.Bytes.{Writing, number_in}
 use Rattle.kind.specs.Faults.{first_of, unless, wrapped, first_bad}
@@ -16,9 +16,9 @@ use Rattle.record.specs.declared.fault.RecordFault.{RecordFault}
 use Rattle.record.specs.declared.fault.RecordFault.TheVariants.{Length, TooManyRounds as TooMany, NotAChallenge as NotAChallengeAt}
 use Rattle.record.specs.declared.round.Round.{Round}
 
-pub cleared-wrapped : {T E F A : Type 0} (up : E → ℕ → F) (r : Result T E) (n : ℕ) (x : A) (xs : List A) → cleared r n x xs ≡ cleared (wrapped up r 0) n x xs
-cleared-wrapped up (Ok b) n x xs = refl
-cleared-wrapped up (Err e) n x xs = refl
+pub cleared_wrapped : {T E F A : Type 0} (up : E → ℕ → F) (r : Result T E) (n : ℕ) (x : A) (xs : List A) → cleared r n x xs ≡ cleared (wrapped up r 0) n x xs
+cleared_wrapped up (Ok b) n x xs = refl
+cleared_wrapped up (Err e) n x xs = refl
 
 taken : (b : Bool) (n k : ℕ) (f : RecordFault) → cond b (Ok n) (Err f) ≡ Ok k → (b ≡ true) × (k ≡ n)
 taken true n k f e = (refl, cc)
@@ -36,17 +36,17 @@ few_rounds : (width : ℕ) (bs : List ℕ)
     → first_of (unless (ltb 0 (length bs)) (Length 0) ∷ unless (leb (rounds_in bs) 8) TooMany ∷ unless (eqb (length bs) (record_length width (rounds_in bs))) (Length (length bs)) ∷ []) ≡ Ok tt
     → rounds_in bs ≤ 8
 few_rounds width bs e =
-    let one = both-went (unless (ltb 0 (length bs)) (Length 0)) _ tt e in
-    let two = both-went (unless (leb (rounds_in bs) 8) TooMany) _ tt one.2 in
+    let one = both_went (unless (ltb 0 (length bs)) (Length 0)) _ tt e in
+    let two = both_went (unless (leb (rounds_in bs) 8) TooMany) _ tt one.2 in
     leb-true (rounds_in bs) 8 (held (leb (rounds_in bs) 8) TooMany two.0 two.1)
 
 module _ {M : Type 0} (w : Writing M) (q : ℕ) (small : q ≤ 2 ^ 30) where
-  round-inside : (place : ℕ) (bs : List ℕ) (x : Round M) → round_in w q place bs ≡ Ok x → outside x.challenge ≡ false
-  round-inside place bs x e =
+  round_inside : (place : ℕ) (bs : List ℕ) (x : Round M) → round_in w q place bs ≡ Ok x → outside x.challenge ≡ false
+  round_inside place bs x e =
       let n : ℕ = number_in (drop (4 * w.width) bs) in
-      let one = both-went (pair_in w q place bs) _ x e in
-      let two = both-went (pair_in w q (place + 2 * w.width) (drop (2 * w.width) bs)) _ x one.2 in
-      let three = both-went (challenge_in q (place + 4 * w.width) (drop (4 * w.width) bs)) _ x two.2 in
+      let one = both_went (pair_in w q place bs) _ x e in
+      let two = both_went (pair_in w q (place + 2 * w.width) (drop (2 * w.width) bs)) _ x one.2 in
+      let three = both_went (challenge_in q (place + 4 * w.width) (drop (4 * w.width) bs)) _ x two.2 in
       let h : Ok (round_of one.0 two.0 three.0) ≡ Ok x = three.2 in
       let same : round_of one.0 two.0 three.0 ≡ x = cc in
       let t = taken (ltb 0 n && ltb n q) n three.0 (NotAChallengeAt (place + 4 * w.width)) three.1 in
@@ -60,7 +60,7 @@ module _ {M : Type 0} (w : Writing M) (q : ℕ) (small : q ≤ 2 ^ 30) where
   pub rest_facts : (k place i : ℕ) (bs : List ℕ) (rest : List (Round M) × (ℕ × ℕ)) → rest_in w q place k bs ≡ Ok rest
       → (length (challenges_of rest.0) ≡ k) × (first_bad outside NotAChallenge i (challenges_of rest.0) ≡ Ok tt)
   rest_facts zero place i bs rest e =
-      let one = both-went (last_in q place (take 8 bs)) _ rest e in
+      let one = both_went (last_in q place (take 8 bs)) _ rest e in
       let none : List (Round M) = [] in
       let h : Ok (none, one.0) ≡ Ok rest = one.2 in
       let same : (none, one.0) ≡ rest = cc in (
@@ -69,8 +69,8 @@ module _ {M : Type 0} (w : Writing M) (q : ℕ) (small : q ≤ 2 ^ 30) where
       )
   rest_facts (suc k) place i bs rest e =
       let size : ℕ = size_of_round w.width in
-      let one = both-went (round_in w q place (take size bs)) _ rest e in
-      let two = both-went (rest_in w q (place + size) k (drop size bs)) _ rest one.2 in
+      let one = both_went (round_in w q place (take size bs)) _ rest e in
+      let two = both_went (rest_in w q (place + size) k (drop size bs)) _ rest one.2 in
       let x : Round M = one.0 in
       let y : List (Round M) × (ℕ × ℕ) = two.0 in
       let h : Ok (x ∷ y.0, y.1) ≡ Ok rest = two.2 in
@@ -78,7 +78,7 @@ module _ {M : Type 0} (w : Writing M) (q : ℕ) (small : q ≤ 2 ^ 30) where
       let later = rest_facts k (place + size) (i + 1) (drop size bs) y two.1 in (
         ap (λ (z : List (Round M) × (ℕ × ℕ)). length (challenges_of z.0)) (sym same) ∙ ap suc later.0,
         ap (λ (z : List (Round M) × (ℕ × ℕ)). first_bad outside NotAChallenge i (challenges_of z.0)) (sym same)
-            ∙ ap (λ b. cond b (Err (NotAChallenge i)) (first_bad outside NotAChallenge (i + 1) (challenges_of y.0))) (round-inside place (take size bs) x one.1)
+            ∙ ap (λ b. cond b (Err (NotAChallenge i)) (first_bad outside NotAChallenge (i + 1) (challenges_of y.0))) (round_inside place (take size bs) x one.1)
             ∙ later.1,
       )
 
@@ -86,11 +86,11 @@ module _ {M : Type 0} (w : Writing M) (q : ℕ) (small : q ≤ 2 ^ 30) where
   pub contents_facts : (bs : List ℕ) (c : Contents M) → contents_in w q bs ≡ Ok c
       → (length (challenges_of c.rounds) ≡ rounds_in bs) × (table_answer (challenges_of c.rounds) ≡ Ok (challenges_of c.rounds))
   contents_facts bs c e =
-      let one = both-went (shape_in w.width bs) _ c e in
+      let one = both_went (shape_in w.width bs) _ c e in
       let shape = passed_on _ (rounds_in bs) one.0 one.1 in
       let k : ℕ = one.0 in
-      let two = both-went (pair_in w q 1 (take (size_of_claim w.width) (drop 1 bs))) _ c one.2 in
-      let three = both-went (rest_in w q (1 + size_of_claim w.width) k (drop (size_of_claim w.width) (drop 1 bs))) _ c two.2 in
+      let two = both_went (pair_in w q 1 (take (size_of_claim w.width) (drop 1 bs))) _ c one.2 in
+      let three = both_went (rest_in w q (1 + size_of_claim w.width) k (drop (size_of_claim w.width) (drop 1 bs))) _ c two.2 in
       let rest : List (Round M) × (ℕ × ℕ) = three.0 in
       let made : Contents M = record { commitments = two.0; rounds = rest.0; last_pair = rest.1 } in
       let h : Ok made ≡ Ok c = three.2 in

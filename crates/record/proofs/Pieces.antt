@@ -9,9 +9,9 @@ pieces_more size (suc k) bs h =
     let e : k ≡ suc k - 1 = omega arith in
     ap (λ (n : ℕ). round (take size bs) ∷ round_pieces size n (drop size bs)) e
 
-pub rounds-count : (size k : ℕ) (bs : List ℕ) → rounds_only (round_pieces size k bs) ≡ k
-rounds-count size zero bs = refl
-rounds-count size (suc k) bs = let h = rounds-count size k (drop size bs) in omega arith
+pub rounds_count : (size k : ℕ) (bs : List ℕ) → rounds_only (round_pieces size k bs) ≡ k
+rounds_count size zero bs = refl
+rounds_count size (suc k) bs = let h = rounds_count size k (drop size bs) in omega arith
 
 pub size_count : (w size k : ℕ) (bs : List ℕ) → size_of_all w (round_pieces size k bs) ≡ k * size_of_round w + 8
 size_count w size zero bs = omega arith

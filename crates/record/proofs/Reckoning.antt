@@ -21,11 +21,11 @@ module _ {M E : Type 0} (s : Meaning M E) (w : Writing M) where
     last_pair = rest.1;
   }
 
-  finished-last : (r : Reckoned M) (p : ℕ × ℕ) → with_last p r ≡ finished r ([], p)
-  finished-last r p = λ i. record { z = r.z; challenges = sym (append-nil r.challenges) i; last_pair = p }
+  finished_last : (r : Reckoned M) (p : ℕ × ℕ) → with_last p r ≡ finished r ([], p)
+  finished_last r p = λ i. record { z = r.z; challenges = sym (append-nil r.challenges) i; last_pair = p }
 
-  finished-round : (r : Reckoned M) (x : Round M) (rest : List (Round M) × (ℕ × ℕ)) → finished (with_round s x r) rest ≡ finished r (x ∷ rest.0, rest.1)
-  finished-round r x rest = λ i. record {
+  finished_round : (r : Reckoned M) (x : Round M) (rest : List (Round M) × (ℕ × ℕ)) → finished (with_round s x r) rest ≡ finished r (x ∷ rest.0, rest.1)
+  finished_round r x rest = λ i. record {
     z = folded_by s (with_round s x r).z rest.0;
     challenges = append_assoc r.challenges (x.challenge ∷ []) (challenges_of rest.0) i;
     last_pair = rest.1;
@@ -33,18 +33,18 @@ module _ {M E : Type 0} (s : Meaning M E) (w : Writing M) where
 
   after_last : (r : Reckoned M) (a : Result (ℕ × ℕ) RecordFault)
       → and_then (and_then a (λ p. Ok (with_last p r))) (λ t. Ok t) ≡ and_then (and_then a (λ p. Ok ([], p))) (λ rest. Ok (finished r rest))
-  after_last r (Ok p) = ap Ok (finished-last r p)
+  after_last r (Ok p) = ap Ok (finished_last r p)
   after_last r (Err f) = refl
 
-  after-round : (r : Reckoned M) (x : Round M) (a : Result (List (Round M) × (ℕ × ℕ)) RecordFault)
+  after_round : (r : Reckoned M) (x : Round M) (a : Result (List (Round M) × (ℕ × ℕ)) RecordFault)
       → and_then a (λ rest. Ok (finished (with_round s x r) rest)) ≡ and_then (and_then a (λ rest. Ok (x ∷ rest.0, rest.1))) (λ rest. Ok (finished r rest))
-  after-round r x (Ok rest) = ap Ok (finished-round r x rest)
-  after-round r x (Err f) = refl
+  after_round r x (Ok rest) = ap Ok (finished_round r x rest)
+  after_round r x (Err f) = refl
 
-  rounds-gathered : (k place : ℕ) (r : Reckoned M) (bs : List ℕ)
+  rounds_gathered : (k place : ℕ) (r : Reckoned M) (bs : List ℕ)
       → gathered s w place r (round_pieces (size_of_round w.width) k bs) ≡ and_then (rest_in w s.order place k bs) (λ rest. Ok (finished r rest))
-  rounds-gathered zero place r bs = after_last r (last_in s.order place (take 8 bs))
-  rounds-gathered (suc k) place r bs = go (round_in w s.order place (take size bs)) (λ t. rounds-gathered k (place + size) t (drop size bs))
+  rounds_gathered zero place r bs = after_last r (last_in s.order place (take 8 bs))
+  rounds_gathered (suc k) place r bs = go (round_in w s.order place (take size bs)) (λ t. rounds_gathered k (place + size) t (drop size bs))
     where
       size : ℕ
       size = size_of_round w.width
@@ -54,7 +54,7 @@ module _ {M E : Type 0} (s : Meaning M E) (w : Writing M) where
           → and_then (and_then a (λ x. Ok (with_round s x r))) (λ t. gathered s w (place + size) t (round_pieces size k (drop size bs)))
           ≡ and_then (and_then a (λ x. and_then (rest_in w s.order (place + size) k (drop size bs)) (λ rest. Ok (x ∷ rest.0, rest.1)))) (λ rest. Ok (finished r rest))
       go (Err f) later = refl
-      go (Ok x) later = later (with_round s x r) ∙ after-round r x (rest_in w s.order (place + size) k (drop size bs))
+      go (Ok x) later = later (with_round s x r) ∙ after_round r x (rest_in w s.order (place + size) k (drop size bs))
 
   -- a whole record
   pub whole_gathered : (bs : List ℕ)
@@ -74,5 +74,5 @@ module _ {M E : Type 0} (s : Meaning M E) (w : Writing M) where
           ≡ and_then (and_then a (λ z. and_then (rest_in w s.order (1 + size_of_claim w.width) (rounds_in bs) rest) (λ x. Ok (record { commitments = z; rounds = x.0; last_pair = x.1 })))) (λ c. Ok (reckoned s c))
       go (Err f) = refl
       go (Ok z) =
-          rounds-gathered (rounds_in bs) (1 + size_of_claim w.width) (with_claim z (nothing s)) rest
+          rounds_gathered (rounds_in bs) (1 + size_of_claim w.width) (with_claim z (nothing s)) rest
           ∙ end z (rest_in w s.order (1 + size_of_claim w.width) (rounds_in bs) rest)

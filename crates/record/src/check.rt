@@ -7,7 +7,7 @@ ghost use Rattle.method.specs.Tables.{table_answer};
 ghost use Rattle.record.specs.Answers.{judged_answer, record_answer, front_answer};
 ghost use Rattle.record.specs.Folded.{seen};
 ghost use Rattle.record.specs.Parts.{rounds_in};
-ghost use Rattle.record.specs.declared.fault.RecordFault.TheVariants.{Method as method-fault};
+ghost use Rattle.record.specs.declared.fault.RecordFault.TheVariants.{Method as method_fault};
 
 use crate::fault::{InRecord, RecordFault};
 use crate::noted::Noted;

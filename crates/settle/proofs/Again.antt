@@ -10,8 +10,8 @@ refused_alike (Ok x) t u e h = cc
 refused_alike (Err f) t u e h = cc
 
 -- the first n of a list whose first n + m are x, cleared again
-pub cleared-again : {A : Type 0} (n m : ℕ) (x : A) (ys : List A) → replicate n x ++ drop n (replicate (n + m) x ++ ys) ≡ replicate (n + m) x ++ ys
-cleared-again n m x ys =
+pub cleared_again : {A : Type 0} (n m : ℕ) (x : A) (ys : List A) → replicate n x ++ drop n (replicate (n + m) x ++ ys) ≡ replicate (n + m) x ++ ys
+cleared_again n m x ys =
     let twice = sym (replicate-append-replicate n m x) in
     ap (λ l. replicate n x ++ drop n (l ++ ys)) twice
     ∙ ap (λ l. replicate n x ++ drop n l) (append_assoc (replicate n x) (replicate m x) ys)

@@ -59,15 +59,15 @@ module _ {M E : Type 0} (s : Meaning M E) (laws : Lawful s) where
         all_pass (more (ap (λ e. wrapped Kind e 0) (entries_free gs all_g)) (more (ap (λ e. wrapped Kind e 0) (entries_free hs all_h))
         (more (scalars_free s.order _ 0 l ok.l_below) (more (scalars_free s.order _ 0 r ok.r_below) none))))
 
-    pub claim-free : claim_refused s gs hs l r ≡ Ok tt
-    claim-free =
+    pub claim_free : claim_refused s gs hs l r ≡ Ok tt
+    claim_free =
         all_pass (more (sizes_free (length cs) (length gs) (length hs) (length l) (length r) ok.few long_g long_h ok.l ok.r)
         (more (lengths_free (length cs) (length gs) (length hs) (length l) (length r) ok.few long_g long_h ok.l ok.r)
         (more content_free none)))
 
-  pub fold-free : (gs hs : List E) (l r : List ℕ) (c : ℕ) (cs : List ℕ) → AllElements s gs → AllElements s hs → Playable s (lists_of s gs hs l r) (c ∷ cs)
+  pub fold_free : (gs hs : List E) (l r : List ℕ) (c : ℕ) (cs : List ℕ) → AllElements s gs → AllElements s hs → Playable s (lists_of s gs hs l r) (c ∷ cs)
       → fold_refused s gs hs l r c ≡ Ok tt
-  fold-free gs hs l r c cs all_g all_h ok =
+  fold_free gs hs l r c cs all_g all_h ok =
       let lg = long_g gs hs l r (c ∷ cs) all_g all_h ok in
       let lh = long_h gs hs l r (c ∷ cs) all_g all_h ok in
       let told : message_refused s gs hs l r ≡ Ok tt =

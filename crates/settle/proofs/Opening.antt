@@ -14,7 +14,7 @@ use Rattle.ledger.specs.declared.parts.Numbers.{Numbers}
 use Rattle.ledger.specs.declared.parts.Sort.{Sort}
 use Rattle.writer.specs.Answers.{lists_of}
 use Rattle.settle.specs.Cases.{passed_if_opened, token_after, calls_from, calls_after, last_answer}
-use Rattle.settle.proofs.Passing.{opened-passes}
+use Rattle.settle.proofs.Passing.{opened_passes}
 
 -- An opening is refused and alters nothing, or it opens the case.
 module _ {M : Type 0} (l : Ledger M) (k : ℕ) (z : Pair M) (P : Step M → Type 0) where
@@ -48,8 +48,8 @@ module _ {M : Type 0} (l : Ledger M) (k : ℕ) (z : Pair M) where
   Room = (l.running ≡ None) × (l.page.opened < 10000)
 
   -- a token was given
-  token-given : (sort : Sort) (t : Numbers) → opens.answer ≡ Token sort t → Room × (t ≡ numbers_at l.number (one_opened l.page) 0)
-  token-given sort t =
+  token_given : (sort : Sort) (t : Numbers) → opens.answer ≡ Token sort t → Room × (t ≡ numbers_at l.number (one_opened l.page) 0)
+  token_given sort t =
       by_opening l k z (λ (out : Step M). out.answer ≡ Token sort t → Room × (t ≡ numbers_at l.number (one_opened l.page) 0))
       (λ why e. absurd (let w : ◌≡◌ {A = ℕ} 0 1 = cc in omega arith)) (λ none room e. ((none, room), cc))
 
@@ -63,7 +63,7 @@ module _ {M : Type 0} (l : Ledger M) (k : ℕ) (z : Pair M) where
   pub none_given : ((sort : Sort) (t : Numbers) → opens.answer ≡ Token sort t → ⊥) → (why : StationFault) × (opens ≡ refuse l why)
   none_given =
       by_opening l k z (λ (out : Step M). ((sort : Sort) (t : Numbers) → out.answer ≡ Token sort t → ⊥) → (why : StationFault) × (out ≡ refuse l why))
-      (λ why no-token. (why, refl)) (λ none room no-token. absurd (no-token _ _ refl))
+      (λ why no_token. (why, refl)) (λ none room no_token. absurd (no_token _ _ refl))
 
 module _ {M E : Type 0} (s : Meaning M E) (laws : Lawful s) (l0 : Ledger M) (gs hs : List E) (key : M) (l r cs : List ℕ) (ok : Playable s (lists_of s gs hs l r) cs) where
   abbrev lists : Lists M
@@ -82,11 +82,11 @@ module _ {M E : Type 0} (s : Meaning M E) (laws : Lawful s) (l0 : Ledger M) (gs 
 
   pub goes_well : (sort : Sort) (t : Numbers) → first.answer ≡ Token sort t → GoesWell t
   goes_well sort t e =
-      let known = token-given l0 (length cs) (claim_of s key lists) sort t e in
+      let known = token_given l0 (length cs) (claim_of s key lists) sort t e in
       let same = ap (λ (u : Numbers). rest_of s key (length gs) (length gs) (token_after u) lists lists 0 cs) known.1 in
       record {
         passes = ap (last_answer s first.ledger Withdrawn) same
-            ∙ opened-passes s laws l0 known.0.0 known.0.1 lists key cs (length gs) (length gs) Withdrawn ok long long;
+            ∙ opened_passes s laws l0 known.0.0 known.0.1 lists key cs (length gs) (length gs) Withdrawn ok long long;
         calls = ap (final s first.ledger) same;
       }
 

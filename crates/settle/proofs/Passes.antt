@@ -21,21 +21,21 @@ use Rattle.record.specs.Contents.{contents_in}
 use Rattle.record.specs.Folded.{challenges_of, folded_by, reckoned}
 use Rattle.record.specs.declared.fault.RecordFault.TheVariants.{Method}
 use Rattle.writer.specs.Answers.{lists_of}
-use Rattle.writer.proofs.Lengths.{rounds-count}
+use Rattle.writer.proofs.Lengths.{rounds_count}
 use Rattle.settle.specs.Meeting.{Writable}
 use Rattle.settle.proofs.Reading.{reads_back}
 use Rattle.writer.proofs.Unrefused.{unrefused}
 
 module _ {M E : Type 0} (s : Meaning M E) where
-  reduced-same : (cs : List ℕ) → Challenges s.order cs → reduced s cs ≡ cs
-  reduced-same [] ok = refl
-  reduced-same (c ∷ cs) ok = ap₂ ◌∷◌ (mod-eq_of_lt ok.1) (reduced-same cs ok.2)
+  reduced_same : (cs : List ℕ) → Challenges s.order cs → reduced s cs ≡ cs
+  reduced_same [] ok = refl
+  reduced_same (c ∷ cs) ok = ap₂ ◌∷◌ (mod-eq_of_lt ok.1) (reduced_same cs ok.2)
 
   module _ (key : M) where
     -- the record of a proof holds its challenges
-    pub rounds-challenges : (cs : List ℕ) (x : Lists M) → challenges_of (rounds_of s key cs x) ≡ cs
-    rounds-challenges [] x = refl
-    rounds-challenges (c ∷ cs) x = ap (λ (ds : List ℕ). c ∷ ds) (rounds-challenges cs (folded s c x))
+    pub rounds_challenges : (cs : List ℕ) (x : Lists M) → challenges_of (rounds_of s key cs x) ≡ cs
+    rounds_challenges [] x = refl
+    rounds_challenges (c ∷ cs) x = ap (λ (ds : List ℕ). c ∷ ds) (rounds_challenges cs (folded s c x))
 
     -- a last pair that passes among the lists as folded passes by the record
     by_record : (cs : List ℕ) (x : Lists M) (z : Pair M) → LastPasses s.order s.group key (rounds s.order s.group key cs (standing x z))
@@ -54,21 +54,21 @@ module _ {M E : Type 0} (s : Meaning M E) (laws : Lawful s) (key : M) where
   pub writable : (cs : List ℕ) (x : Lists M) → Playable s x cs → Writable s.order (proof_of s key cs x)
   writable cs x ok =
       let few = ok.few in
-      let n = rounds-count s key cs x in
+      let n = rounds_count s key cs x in
       let below = last_below cs x ok in
       record {
         few = omega arith;
-        challenges = subst (Challenges s.order) (sym (rounds-challenges s key cs x)) ok.challenges;
+        challenges = subst (Challenges s.order) (sym (rounds_challenges s key cs x)) ok.challenges;
         a_below = below.0;
         b_below = below.1;
       }
 
   -- and it passes
-  passes-folded : (cs : List ℕ) (x : Lists M) → Playable s x cs
+  passes_folded : (cs : List ℕ) (x : Lists M) → Playable s x cs
       → let p = last_pair_of s key cs x in
       let end = folded_by s (claim_of s key x) (rounds_of s key cs x) in
       FoldedPasses s.order s.group key cs x.gs x.hs p.0 p.1 end.a end.b
-  passes-folded cs x ok =
+  passes_folded cs x ok =
       by_record s key cs x (claim_of s key x)
       (complete laws.group key cs (standing x (claim_of s key x))
       (record { gs = ok.gs; hs = ok.hs; l = ok.l; r = ok.r }) (record { one = refl; two = refl }))
@@ -82,7 +82,7 @@ module _ {M E : Type 0} (s : Meaning M E) (laws : Lawful s) (key : M) where
         let p : ℕ × ℕ = last_pair_of s key cs start in
         let end : Pair M = folded_by s (claim_of s key start) (rounds_of s key cs start) in
         let both = subst (λ (ds : List ℕ). FoldedPasses s.order s.group key ds start.gs start.hs p.0 p.1 end.a end.b)
-        (sym (reduced-same s cs ok.challenges)) (passes-folded cs start ok) in
+        (sym (reduced_same s cs ok.challenges)) (passes_folded cs start ok) in
         ap₂ ◌&&◌ (laws.same_so _ _ both.one) (laws.same_so _ _ both.two)
 
     not_refused : AllElements s gs → AllElements s hs → (we wn : ℕ) → length gs ≤ we → length gs ≤ wn
@@ -98,15 +98,15 @@ module _ {M E : Type 0} (s : Meaning M E) (laws : Lawful s) (key : M) where
     method_passes all_gs all_hs we wn re rn =
         let p : ℕ × ℕ = last_pair_of s key cs start in
         let end : Pair M = folded_by s (claim_of s key start) (rounds_of s key cs start) in
-        ap (λ (ds : List ℕ). wrapped Method (method_answer s ds end gs hs key p.0 p.1 we wn) 0) (rounds-challenges s key cs start)
+        ap (λ (ds : List ℕ). wrapped Method (method_answer s ds end gs hs key p.0 p.1 we wn) 0) (rounds_challenges s key cs start)
         ∙ ap (λ a. wrapped Method a 0) (went (method_refused s cs gs hs p.0 p.1 we wn) _ tt _ (not_refused all_gs all_hs we wn re rn) (ap Ok verdict_true))
 
 -- The record of lists and challenges that are not refused is passed.
-pub written-passes : {M E : Type 0} (s : Meaning M E) (laws : Lawful s) (w : Writing M) → WellWritten w
+pub written_passes : {M E : Type 0} (s : Meaning M E) (laws : Lawful s) (w : Writing M) → WellWritten w
     → (gs hs : List E) (key : M) (l r cs : List ℕ) (out we wn : ℕ) → whole_refused s w.width gs hs l r cs out we wn ≡ Ok tt
     → (elements numbers : ℕ) → length gs ≤ elements → length gs ≤ numbers
     → record_answer s w (record_of s w key cs (lists_of s gs hs l r)) gs hs key elements numbers ≡ Ok true
-written-passes s laws w good gs hs key l r cs out we wn e elements numbers re rn =
+written_passes s laws w good gs hs key l r cs out we wn e elements numbers re rn =
     let known = unrefused s laws w.width gs hs l r cs out we wn e in
     let x : Lists _ = lists_of s gs hs l r in
     went (contents_in w s.order (record_of s w key cs x)) _ (proof_of s key cs x) _

@@ -2,10 +2,10 @@
 use Rattle.std.proofs.Common.{◌≡◌, ℕ, ◌+◌, ◌^◌, ◌<◌, ◌≤◌, Bool, true, cond, List, [], ◌∷◌, length, None, sym, refl, ap, ◌∙◌, subst, arith, eq-eqb, ne_eqb}
 use lib.ListN.{length-map}
 use Rattle.kind.specs.Kinds.{Meaning, Lawful}
-use Rattle.ledger.proofs.Agreement.{Agrees, ends_well, opened, heard, after-round}
+use Rattle.ledger.proofs.Agreement.{Agrees, ends_well, opened, heard, after_round}
 use Rattle.ledger.proofs.Play.{playable_more, script, at, told, sent, took, opens_up, goes_through}
 use Rattle.ledger.proofs.Tokens.{same_itself}
-use Rattle.ledger.proofs.Walk.{end-taken}
+use Rattle.ledger.proofs.Walk.{end_taken}
 use Rattle.ledger.specs.Ledger.{Case, Ledger, Step, Call, opening, draw, Last, step, last_pair_at, drawn, stage_after, numbers_at, one_opened}
 use Rattle.ledger.specs.Rules.{Lists, folded, claim_of, message_of, Follows}
 use Rattle.ledger.specs.Script.{Playable, last_pair_to}
@@ -39,7 +39,7 @@ module _ {M E : Type 0} (kind : Meaning M E) (laws : Lawful kind) where
         let size : length p.gs ≡ length start.gs = length-map start.gs kind.entry in
         ap (λ (s : Stage M). (last_pair_at kind (after e) t p e s).answer) is_last
         ∙ ap (λ (o : Step M). o.answer)
-        (end-taken laws start key (after e) t p e (ends_well kind start key laws e Closing t p agrees is_last) (same_itself t)
+        (end_taken laws start key (after e) t p e (ends_well kind start key laws e Closing t p agrees is_last) (same_itself t)
         (omega (arith, size)) (omega (arith, size)) (ok.l_below 0) (ok.r_below 0))
     passes (c ∷ cs) x e a ok agrees st n re rn =
         let m : Message M = message_of kind key x in
@@ -52,15 +52,15 @@ module _ {M E : Type 0} (kind : Meaning M E) (laws : Lawful kind) where
         ap (λ (l : Ledger M). last_answer kind (step kind l (draw Heard t c)).ledger (step kind l (draw Heard t c)).answer rest) (sent kind laws start key elements numbers number page e m waits)
         ∙ ap (λ (l : Ledger M). last_answer kind l b rest) (took kind laws start key elements numbers number page e m c range.0 range.1)
         ∙ passes cs (folded kind c x) (drawn kind e m c) b (playable_more kind laws x c cs ok)
-        (after-round kind start key laws next m Heard t c rest range.1 refl (heard kind start key e Waiting t m (draw Heard t c ∷ rest) waits agrees))
+        (after_round kind start key laws next m Heard t c rest range.1 refl (heard kind start key e Waiting t m (draw Heard t c ∷ rest) waits agrees))
         refl (omega arith) re rn
 
   -- a case that was opened
-  pub opened-passes : (l : Ledger M) → l.running ≡ None → l.page.opened < 10000
+  pub opened_passes : (l : Ledger M) → l.running ≡ None → l.page.opened < 10000
       → (x : Lists M) (key : M) (cs : List ℕ) (elements numbers : ℕ) (a : Answer) → Playable kind x cs → 2 ^ length cs ≤ elements → 2 ^ length cs ≤ numbers
       → last_answer kind (step kind l (opening (length cs) (claim_of kind key x))).ledger a
       (script kind laws x key elements numbers l.number (one_opened l.page) x 0 cs) ≡ Verdict true
-  opened-passes l none room x key cs elements numbers a ok re rn =
+  opened_passes l none room x key cs elements numbers a ok re rn =
       let page : Page = one_opened l.page in
       let k : ℕ = length cs in
       let rest : List (Call M E) = script kind laws x key elements numbers l.number page x 0 cs in

@@ -16,7 +16,7 @@ use Rattle.record.specs.Folded.{challenges_of}
 use Rattle.record.specs.Parts.{size_of_claim, size_of_round, record_length}
 use Rattle.record.specs.declared.fault.RecordFault.TheVariants.{NotAScalar, NotAChallenge, Kind}
 use Rattle.record.specs.declared.round.Round.{Round}
-use Rattle.writer.proofs.Lengths.{pair_long, round-long, written-long}
+use Rattle.writer.proofs.Lengths.{pair_long, round_long, written_long}
 use Rattle.settle.specs.Meeting.{Writable}
 
 -- numbers below q
@@ -58,16 +58,16 @@ module _ {M : Type 0} (w : Writing M) (good : WellWritten w) where
     pair_only place x y = ap (λ (b : List ℕ). pair_in w q place (w.bytes x ++ b)) (sym (append-nil (w.bytes y))) ∙ pair_read place x y []
 
   module _ (q : ℕ) (small : q ≤ 2 ^ 30) where
-    round-read : (place : ℕ) (r : Round M) → 0 < r.challenge → r.challenge < q → round_in w q place (round_written w r) ≡ Ok r
-    round-read place r some below =
+    round_read : (place : ℕ) (r : Round M) → 0 < r.challenge → r.challenge < q → round_in w q place (round_written w r) ≡ Ok r
+    round_read place r some below =
         let a : List ℕ = w.bytes r.lower.a in
         let b : List ℕ = w.bytes r.lower.b in
         let c : List ℕ = w.bytes r.upper.a in
         let d : List ℕ = w.bytes r.upper.b in
         let n : List ℕ = bytes_of r.challenge in
         let size = pair_long w good r.lower.a r.lower.b in
-        let size-c = good.filled r.upper.a in
-        let size-d = good.filled r.upper.b in
+        let size_c = good.filled r.upper.a in
+        let size_d = good.filled r.upper.b in
         let long : length (((a ++ b) ++ c) ++ d) ≡ 4 * w.width = simp length-append (omega arith) in
         let one : round_written w r ≡ a ++ (b ++ (c ++ (d ++ n))) = simp append_assoc in
         let two : round_written w r ≡ (a ++ b) ++ (c ++ (d ++ n)) = simp append_assoc in
@@ -88,14 +88,14 @@ module _ {M : Type 0} (w : Writing M) (good : WellWritten w) where
         let size : ℕ = size_of_round w.width in
         let bs : List ℕ = rest_written w rs p in
         went (round_in w q place (take size (round_written w r ++ bs))) _ r _
-        (ap (round_in w q place) (take_at (round_written w r) bs size (round-long w good r)) ∙ round-read place r ok.0 ok.1)
+        (ap (round_in w q place) (take_at (round_written w r) bs size (round_long w good r)) ∙ round_read place r ok.0 ok.1)
         (went (rest_in w q (place + size) (length rs) (drop size (round_written w r ++ bs))) _ (rs, p) _
-        (ap (rest_in w q (place + size) (length rs)) (drop_at (round_written w r) bs size (round-long w good r)) ∙ rest_read (place + size) rs p ok.2 a b)
+        (ap (rest_in w q (place + size) (length rs)) (drop_at (round_written w r) bs size (round_long w good r)) ∙ rest_read (place + size) rs p ok.2 a b)
         refl)
 
     shape_read : (c : Contents M) → length c.rounds ≤ 8 → shape_in w.width (written w c) ≡ Ok (length c.rounds)
     shape_read c few =
-        let n = written-long w good c in
+        let n = written_long w good c in
         let some : ltb 0 (length (written w c)) ≡ true = lt-ltb 0 (length (written w c)) (omega arith) in
         let eight : leb (length c.rounds) 8 ≡ true = le-leb (length c.rounds) 8 few in
         let fits : eqb (length (written w c)) (record_length w.width (length c.rounds)) ≡ true =

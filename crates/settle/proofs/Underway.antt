@@ -18,7 +18,7 @@ use Rattle.writer.specs.Answers.{lists_of}
 use Rattle.writer.specs.Ready.{Ready}
 use Rattle.writer.specs.Refusals.{fold_refused}
 use Rattle.settle.specs.Cases.{token_after, calls_after, last_answer}
-use Rattle.settle.proofs.Free.{fold-free}
+use Rattle.settle.proofs.Free.{fold_free}
 
 -- a list whose front was lent: it begins with what the front begins with
 begins : {A : Type 0} (m : ℕ) (fs ys zs back : List A) → ys ≡ fs ++ zs → length fs ≡ m → take m (ys ++ back) ≡ fs
@@ -46,10 +46,10 @@ module _ {M E : Type 0} (s : Meaning M E) (key : M) (t : Numbers) (n : ℕ) (sta
     pub says : (a : Answer) → last_answer s ledger a (left i (front s m gs hs l r)) ≡ said
 
   -- the calls of a round come first
-  left-more : (i : ℕ) (x : Lists M) → i < length cs
+  left_more : (i : ℕ) (x : Lists M) → i < length cs
       → left i x
       ≡ message Waiting (token_after t i) (message_of s key x) ∷ (draw Heard (token_after t i) (get_or cs i 0) ∷ left (i + 1) (folded s (get_or cs i 0) x))
-  left-more i x h = ap (λ (ds : List ℕ). rest_of s key n n (token_after t) start x i ds) (drop_more cs i 0 h)
+  left_more i x h = ap (λ (ds : List ℕ). rest_of s key n n (token_after t) start x i ds) (drop_more cs i 0 h)
 
   -- there is a last call, so what was answered before does not matter
   any_answer : (i : ℕ) (ledger : Ledger M) (a b : Answer) (x : Lists M) → last_answer s ledger a (left i x) ≡ last_answer s ledger b (left i x)
@@ -67,7 +67,7 @@ module _ {M E : Type 0} (s : Meaning M E) (key : M) (t : Numbers) (n : ℕ) (sta
     pub next_free : Lawful s → i < length cs → (k : ℕ) → k ≡ m → fold_refused s (take k gs) (take k hs) (take k l) (take k r) (get_or cs i 0) ≡ Ok tt
     next_free laws lt k e =
         subst (λ (j : ℕ). fold_refused s (take j gs) (take j hs) (take j l) (take j r) (get_or cs i 0) ≡ Ok tt) (sym e)
-        (fold-free s laws (take m gs) (take m hs) (take m l) (take m r) (get_or cs i 0) (drop (i + 1) cs) h.all_g h.all_h (playable_next lt))
+        (fold_free s laws (take m gs) (take m hs) (take m l) (take m r) (get_or cs i 0) (drop (i + 1) cs) h.all_g h.all_h (playable_next lt))
 
     -- a round was played: the first k entries were lent, and begin with the folded lists now
     pub underway_more : Lawful s → i < length cs → (k half : ℕ) → k ≡ m → half ≡ m / 2
@@ -89,23 +89,23 @@ module _ {M E : Type 0} (s : Meaning M E) (key : M) (t : Numbers) (n : ℕ) (sta
         let size = h.size in
         let small : half ≡ 2 ^ (length cs - (i + 1)) = omega arith in
         let long : 2 ^ length (drop (i + 1) cs) ≡ half = ap (λ (j : ℕ). 2 ^ j) (length-drop (i + 1) cs) ∙ sym small in
-        let is-g : take half (yg ++ bg) ≡ map s.entry (folded s c x).gs =
+        let is_g : take half (yg ++ bg) ≡ map s.entry (folded s c x).gs =
         begins half _ yg zg bg (ig ∙ ap (λ (y : Lists M). map s.entry (folded s c y).gs ++ zg) same) (length-map (folded s c x).gs s.entry ∙ nx.gs ∙ long) in
-        let is-h : take half (yh ++ bh) ≡ map s.entry (folded s c x).hs =
+        let is_h : take half (yh ++ bh) ≡ map s.entry (folded s c x).hs =
         begins half _ yh zh bh (ih ∙ ap (λ (y : Lists M). map s.entry (folded s c y).hs ++ zh) same) (length-map (folded s c x).hs s.entry ∙ nx.hs ∙ long) in
-        let is-l : take half (yl ++ bl) ≡ (folded s c x).l = begins half _ yl zl bl (il ∙ ap (λ (y : Lists M). (folded s c y).l ++ zl) same) (nx.l ∙ long) in
-        let is-r : take half (yr ++ br) ≡ (folded s c x).r = begins half _ yr zr br (ir ∙ ap (λ (y : Lists M). (folded s c y).r ++ zr) same) (nx.r ∙ long) in
-        let el-g = ap (elements s) is-g ∙ elements-entries s laws (folded s c x).gs in
-        let el-h = ap (elements s) is-h ∙ elements-entries s laws (folded s c x).hs in
-        let lists : front s half (yg ++ bg) (yh ++ bh) (yl ++ bl) (yr ++ br) ≡ folded s c x = (λ j. record { gs = el-g j; hs = el-h j; l = is-l j; r = is-r j }) in
+        let is_l : take half (yl ++ bl) ≡ (folded s c x).l = begins half _ yl zl bl (il ∙ ap (λ (y : Lists M). (folded s c y).l ++ zl) same) (nx.l ∙ long) in
+        let is_r : take half (yr ++ br) ≡ (folded s c x).r = begins half _ yr zr br (ir ∙ ap (λ (y : Lists M). (folded s c y).r ++ zr) same) (nx.r ∙ long) in
+        let el_g = ap (elements s) is_g ∙ elements-entries s laws (folded s c x).gs in
+        let el_h = ap (elements s) is_h ∙ elements-entries s laws (folded s c x).hs in
+        let lists : front s half (yg ++ bg) (yh ++ bh) (yl ++ bl) (yr ++ br) ≡ folded s c x = (λ j. record { gs = el_g j; hs = el_h j; l = is_l j; r = is_r j }) in
         let told = went ∙ ap (λ (y : Lists M). (step s (step s ledger (message Waiting (token_after t i) (message_of s key y))).ledger (draw Heard (token_after t i) c)).ledger) same in
-        let calls = left-more i x lt in
+        let calls = left_more i x lt in
         let drew : Answer = (step s (step s ledger (message Waiting (token_after t i) (message_of s key x))).ledger (draw Heard (token_after t i) c)).answer in
         record {
           size = small;
           within = omega (arith, h.within);
-          all_g = subst (AllElements s) (sym is-g) (all_entries s laws (folded s c x).gs);
-          all_h = subst (AllElements s) (sym is-h) (all_entries s laws (folded s c x).hs);
+          all_g = subst (AllElements s) (sym is_g) (all_entries s laws (folded s c x).gs);
+          all_h = subst (AllElements s) (sym is_h) (all_entries s laws (folded s c x).hs);
           playable = subst (λ (y : Lists M). Playable s y (drop (i + 1) cs)) (sym lists) nx;
           leads = ap₂ (λ (y : Lists M) (n : Ledger M). final s n (left (i + 1) y)) lists told ∙ ap (final s ledger) (sym calls) ∙ h.leads;
           says = λ a. any_answer (i + 1) next a drew (front s half (yg ++ bg) (yh ++ bh) (yl ++ bl) (yr ++ br))
@@ -113,10 +113,10 @@ module _ {M E : Type 0} (s : Meaning M E) (key : M) (t : Numbers) (n : ℕ) (sta
         }
 
     -- all rounds are done: the last pair is what is left
-    pub underway_end : (bases-g bases-h : List E) → map s.entry start.gs ≡ bases-g → map s.entry start.hs ≡ bases-h → i ≡ length cs
-        → let call = last_pair Closing (token_after t (length cs)) (last_of bases-g bases-h key (get_or l 0 0) (get_or r 0 0) n n) in
+    pub underway_end : (bases_g bases_h : List E) → map s.entry start.gs ≡ bases_g → map s.entry start.hs ≡ bases_h → i ≡ length cs
+        → let call = last_pair Closing (token_after t (length cs)) (last_of bases_g bases_h key (get_or l 0 0) (get_or r 0 0) n n) in
         ((step s ledger call).ledger ≡ end) × ((step s ledger call).answer ≡ said)
-    underway_end bases-g bases-h eg eh is =
+    underway_end bases_g bases_h eg eh is =
         let x : Lists M = front s m gs hs l r in
         let size = h.size in
         let pos : 0 < m = omega (arith, pow_pos (length cs - i)) in
@@ -124,7 +124,7 @@ module _ {M E : Type 0} (s : Meaning M E) (key : M) (t : Numbers) (n : ℕ) (sta
         let gb : get_or (take m r) 0 0 ≡ get_or r 0 0 = get_or-take m r 0 0 pos in
         let only : left i x ≡ last_pair Closing (token_after t i) (last_pair_to s key n n (token_after t) start x) ∷ [] =
         ap (λ (ds : List ℕ). rest_of s key n n (token_after t) start x i ds) (drop_all i cs (omega arith)) in
-        let call : last_pair Closing (token_after t i) (last_pair_to s key n n (token_after t) start x) ≡ last_pair Closing (token_after t (length cs)) (last_of bases-g bases-h key (get_or l 0 0) (get_or r 0 0) n n) =
+        let call : last_pair Closing (token_after t i) (last_pair_to s key n n (token_after t) start x) ≡ last_pair Closing (token_after t (length cs)) (last_of bases_g bases_h key (get_or l 0 0) (get_or r 0 0) n n) =
         (λ j. last_pair Closing (token_after t (is j)) (last_of (eg j) (eh j) key (ga j) (gb j) n n)) in
         let rest = only ∙ ap (λ (c : Call M E). c ∷ []) call in
         (ap (final s ledger) (sym rest) ∙ h.leads, ap (λ (ds : List (Call M E)). last_answer s ledger said ds) (sym rest) ∙ h.says said)

@@ -1,7 +1,7 @@
 // A writer's case, played on a station.
 ghost use Rattle.std.specs.Prelude.{◌≡◌, ◌/◌, ◌<◌, true, ◌++◌, map, length, drop, replicate, Ok, slice_index_or};
 ghost use Rattle.kind.specs.Kinds.{unit_entry};
-ghost use Rattle.ledger.specs.Ledger.{step, final as final-of, opening, message as message-call, draw, last_pair, one_opened, one_judged};
+ghost use Rattle.ledger.specs.Ledger.{step, final as final_of, opening, message as ledger_message, draw, last_pair, one_opened, one_judged};
 ghost use Rattle.ledger.specs.Rules.{folded, claim_of, message_of, Follows};
 ghost use Rattle.ledger.specs.Script.{Playable};
 ghost use Rattle.ledger.specs.declared.parts.Answer.TheVariants.{Verdict, Withdrawn};
@@ -117,7 +117,7 @@ fn play_round<K: Kind, M: Method>(
 ) -> Result<(), WriterFault>
     requires { fold_refused K.Kind.meaning g.old h.old l.old r.old c ≡ Ok tt }
     ensures answer { result ≡ Ok tt }
-    ensures ledger { ledger_of station.new ≡ (step K.Kind.meaning (step K.Kind.meaning (ledger_of station.old) (message-call Waiting token (message_of K.Kind.meaning key (lists_of K.Kind.meaning g.old h.old l.old r.old)))).ledger (draw Heard token c)).ledger }
+    ensures ledger { ledger_of station.new ≡ (step K.Kind.meaning (step K.Kind.meaning (ledger_of station.old) (ledger_message Waiting token (message_of K.Kind.meaning key (lists_of K.Kind.meaning g.old h.old l.old r.old)))).ledger (draw Heard token c)).ledger }
     ensures kept { station.new.method ≡ station.old.method }
     ensures g { g.new ≡ map K.Kind.meaning.entry (folded K.Kind.meaning c (lists_of K.Kind.meaning g.old h.old l.old r.old)).gs ++ replicate (length g.old / 2) (unit_entry K.Kind.meaning) }
     ensures h { h.new ≡ map K.Kind.meaning.entry (folded K.Kind.meaning c (lists_of K.Kind.meaning g.old h.old l.old r.old)).hs ++ replicate (length h.old / 2) (unit_entry K.Kind.meaning) }
@@ -191,7 +191,7 @@ fn play_rounds<K: Kind, M: Method>(
     requires g { fold_g.old ≡ g.now }
     requires h { fold_h.old ≡ h.now }
     ensures answer { result ≡ Ok (last_answer K.Kind.meaning (ledger_of station.old) Withdrawn (calls_after K.Kind.meaning token g.now h.now key fold_l.old fold_r.old cs.now)) }
-    ensures ledger { ledger_of station.new ≡ final-of K.Kind.meaning (ledger_of station.old) (calls_after K.Kind.meaning token g.now h.now key fold_l.old fold_r.old cs.now) }
+    ensures ledger { ledger_of station.new ≡ final_of K.Kind.meaning (ledger_of station.old) (calls_after K.Kind.meaning token g.now h.now key fold_l.old fold_r.old cs.now) }
     ensures kept { station.new.method ≡ station.old.method }
     ensures g { result ≡ Ok (Verdict true) → fold_g.new ≡ replicate (length fold_g.old) (unit_entry K.Kind.meaning) }
     ensures h { result ≡ Ok (Verdict true) → fold_h.new ≡ replicate (length fold_h.old) (unit_entry K.Kind.meaning) }
@@ -241,7 +241,7 @@ fn play_admitted<K: Kind, M: Method>(
 ) -> Result<Answer, WriterFault>
     requires { Admitted K.Kind.meaning g.now h.now l.now r.now cs.now (length fold_g.old) (length fold_h.old) (length fold_l.old) (length fold_r.old) }
     ensures answer { result ≡ Ok (passed_if_opened (opening_answer K.Kind.meaning (ledger_of station.old) g.now h.now key l.now r.now cs.now)) }
-    ensures ledger { ledger_of station.new ≡ if_judged result (final-of K.Kind.meaning (ledger_of station.old) (calls_from K.Kind.meaning (ledger_of station.old) g.now h.now key l.now r.now cs.now)) (ledger_of station.old) }
+    ensures ledger { ledger_of station.new ≡ if_judged result (final_of K.Kind.meaning (ledger_of station.old) (calls_from K.Kind.meaning (ledger_of station.old) g.now h.now key l.now r.now cs.now)) (ledger_of station.old) }
     ensures kept { station.new.method ≡ station.old.method }
     ensures g { fold_g.new ≡ if_judged result (replicate (length fold_g.old) (unit_entry K.Kind.meaning)) fold_g.old }
     ensures h { fold_h.new ≡ if_judged result (replicate (length fold_h.old) (unit_entry K.Kind.meaning)) fold_h.old }
@@ -282,7 +282,7 @@ pub fn play_case<K: Kind, M: Method>(
     fold_r: &mut [u32],
 ) -> Result<Answer, WriterFault>
     ensures answer { result ≡ play_answer K.Kind.meaning (ledger_of station.old) g.now h.now key l.now r.now challenges.now (length fold_g.old) (length fold_h.old) (length fold_l.old) (length fold_r.old) }
-    ensures ledger { ledger_of station.new ≡ if_judged result (final-of K.Kind.meaning (ledger_of station.old) (calls_from K.Kind.meaning (ledger_of station.old) g.now h.now key l.now r.now challenges.now)) (ledger_of station.old) }
+    ensures ledger { ledger_of station.new ≡ if_judged result (final_of K.Kind.meaning (ledger_of station.old) (calls_from K.Kind.meaning (ledger_of station.old) g.now h.now key l.now r.now challenges.now)) (ledger_of station.old) }
     ensures follows { result ≡ Ok (Verdict true) → Follows K.Kind.meaning (lists_of K.Kind.meaning g.now h.now l.now r.now) key (calls_from K.Kind.meaning (ledger_of station.old) g.now h.now key l.now r.now challenges.now) }
     ensures counted { result ≡ Ok (Verdict true) → (ledger_of station.new).page ≡ one_judged true (one_opened (ledger_of station.old).page) }
     ensures kept { station.new.method ≡ station.old.method }

@@ -28,20 +28,20 @@ by_least P a b f g = go (leb a b) refl
         below lt = omega arith
 
 -- the first of a list, as many as the lesser of its length and m
-take-least : {X : Type 0} (xs : List X) (m : ℕ) → take (least (length xs) m) xs ≡ take m xs
-take-least xs m =
+take_least : {X : Type 0} (xs : List X) (m : ℕ) → take (least (length xs) m) xs ≡ take m xs
+take_least xs m =
     by_least (λ n. take n xs ≡ take m xs) (length xs) m
     (λ le. take_all (length xs) xs (omega arith) ∙ sym (take_all m xs le)) (λ _. refl)
 
-take-least-right : {X : Type 0} (xs : List X) (m : ℕ) → take (least m (length xs)) xs ≡ take m xs
-take-least-right xs m =
+take_least_right : {X : Type 0} (xs : List X) (m : ℕ) → take (least m (length xs)) xs ≡ take m xs
+take_least_right xs m =
     by_least (λ n. take n xs ≡ take m xs) m (length xs)
     (λ _. refl) (λ le. take_all (length xs) xs (omega arith) ∙ sym (take_all m xs le))
 
 -- what is behind the lesser of m and the length is as it was, so what is behind m is
-pub drop-least : {X : Type 0} (xs ys : List X) (m : ℕ) → length ys ≡ length xs
+pub drop_least : {X : Type 0} (xs ys : List X) (m : ℕ) → length ys ≡ length xs
     → drop (least m (length xs)) ys ≡ drop (least m (length xs)) xs → drop m ys ≡ drop m xs
-drop-least xs ys m same =
+drop_least xs ys m same =
     by_least (λ n. drop n ys ≡ drop n xs → drop m ys ≡ drop m xs) m (length xs)
     (λ _ h. h) (λ le h. drop_all m ys (omega arith) ∙ sym (drop_all m xs le))
 
@@ -53,9 +53,9 @@ module _ {M E : Type 0} (kind : Meaning M E) where
   run_more l [] x = refl
   run_more l (y ∷ ys) x = ap (λ zs. line_of l y ∷ zs) (run_more (step kind l y).ledger ys x)
 
-  final-more : (l : Ledger M) (xs : List (Call M E)) (x : Call M E) → final kind l (xs ++ x ∷ []) ≡ (step kind (final kind l xs) x).ledger
-  final-more l [] x = refl
-  final-more l (y ∷ ys) x = final-more (step kind l y).ledger ys x
+  final_more : (l : Ledger M) (xs : List (Call M E)) (x : Call M E) → final kind l (xs ++ x ∷ []) ≡ (step kind (final kind l xs) x).ledger
+  final_more l [] x = refl
+  final_more l (y ∷ ys) x = final_more (step kind l y).ledger ys x
 
 -- i calls are done: `front` is written, and the ledger is l
 pub record Sofar {M E : Type 0} (kind : Meaning M E) (start : Ledger M) (xs : List (Call M E)) (i : ℕ) (front : List Line) (l : Ledger M) : Type 0 where
@@ -63,13 +63,13 @@ pub record Sofar {M E : Type 0} (kind : Meaning M E) (start : Ledger M) (xs : Li
   pub reached : l ≡ final kind start (take i xs)
 
 module _ {M E : Type 0} (kind : Meaning M E) (start : Ledger M) where
-  -- u, v are the lengths of the work lists, and near-u, near-v those at this turn, which are the same
-  pub turn : (u v : ℕ) (calls : List (Data M E)) (i : ℕ) (front more : List Line) (l m : Ledger M) (x : Data M E) (y : Line) (near-u near-v : ℕ)
-      → near-u ≡ u → near-v ≡ v → i < length calls → x ≡ get_or calls i x → more ≡ front ++ y ∷ []
-      → y.answer ≡ (step kind l (call_of near-u near-v x)).answer → y.page ≡ m.page → m ≡ (step kind l (call_of near-u near-v x)).ledger
+  -- u, v are the lengths of the work lists, and near_u, near_v those at this turn, which are the same
+  pub turn : (u v : ℕ) (calls : List (Data M E)) (i : ℕ) (front more : List Line) (l m : Ledger M) (x : Data M E) (y : Line) (near_u near_v : ℕ)
+      → near_u ≡ u → near_v ≡ v → i < length calls → x ≡ get_or calls i x → more ≡ front ++ y ∷ []
+      → y.answer ≡ (step kind l (call_of near_u near_v x)).answer → y.page ≡ m.page → m ≡ (step kind l (call_of near_u near_v x)).ledger
       → Sofar kind start (calls_of u v calls) i front l → Sofar kind start (calls_of u v calls) (i + 1) more m
-  turn u v calls i front more l m x y near-u near-v eu ev within read one_more answer page after h =
-      let same : call_of near-u near-v x ≡ call_of u v x = (λ j. call_of (eu j) (ev j) x) in
+  turn u v calls i front more l m x y near_u near_v eu ev within read one_more answer page after h =
+      let same : call_of near_u near_v x ≡ call_of u v x = (λ j. call_of (eu j) (ev j) x) in
       let xs = calls_of u v calls in
       let here : take (i + 1) xs ≡ take i xs ++ call_of u v x ∷ [] =
       take-map (call_of u v) (i + 1) calls ∙ map_more (call_of u v) calls i x within
@@ -85,7 +85,7 @@ module _ {M E : Type 0} (kind : Meaning M E) (start : Ledger M) where
             ∙ sym (run_more kind start (take i xs) (call_of u v x)) ∙ ap (run kind start) (sym here);
         reached =
             now ∙ ap (λ (n : Ledger M). (step kind n (call_of u v x)).ledger) h.reached
-            ∙ sym (final-more kind start (take i xs) (call_of u v x)) ∙ ap (final kind start) (sym here);
+            ∙ sym (final_more kind start (take i xs) (call_of u v x)) ∙ ap (final kind start) (sym here);
       }
 
   -- all that are due are done; m is the length of the list of lines
@@ -96,17 +96,17 @@ module _ {M E : Type 0} (kind : Meaning M E) (start : Ledger M) where
       let xs = calls_of u v calls in
       let at : i ≡ least (length calls) m = all ∙ due in
       let lines : take i out ≡ take (length calls) out =
-      ap (λ (k : ℕ). take k out) (at ∙ ap (least (length calls)) (sym long)) ∙ take-least-right out (length calls) in
-      let done-calls : take i xs ≡ take m xs =
-      ap (λ (k : ℕ). take k xs) at ∙ ap (λ (k : ℕ). take (least k m) xs) (sym (length-map calls (call_of u v))) ∙ take-least xs m in
-      promised laws start (take m xs) (take (length calls) out) (sym lines ∙ h.written ∙ ap (run kind start) done-calls)
+      ap (λ (k : ℕ). take k out) (at ∙ ap (least (length calls)) (sym long)) ∙ take_least_right out (length calls) in
+      let done_calls : take i xs ≡ take m xs =
+      ap (λ (k : ℕ). take k xs) at ∙ ap (λ (k : ℕ). take (least k m) xs) (sym (length-map calls (call_of u v))) ∙ take_least xs m in
+      promised laws start (take m xs) (take (length calls) out) (sym lines ∙ h.written ∙ ap (run kind start) done_calls)
 
   -- the same promise, for work lists as long
-  pub as_long : (u v near-u near-v : ℕ) (calls : List (Data M E)) (m : ℕ) (ys : List Line) → near-u ≡ u → near-v ≡ v
-      → Promise kind start (take m (calls_of near-u near-v calls)) ys → Promise kind start (take m (calls_of u v calls)) ys
-  as_long u v near-u near-v calls m ys eu ev p =
+  pub as_long : (u v near_u near_v : ℕ) (calls : List (Data M E)) (m : ℕ) (ys : List Line) → near_u ≡ u → near_v ≡ v
+      → Promise kind start (take m (calls_of near_u near_v calls)) ys → Promise kind start (take m (calls_of u v calls)) ys
+  as_long u v near_u near_v calls m ys eu ev p =
       subst (λ (d : ℕ). Promise kind start (take m (calls_of u d calls)) ys) ev
-      (subst (λ (d : ℕ). Promise kind start (take m (calls_of d near-v calls)) ys) eu p)
+      (subst (λ (d : ℕ). Promise kind start (take m (calls_of d near_v calls)) ys) eu p)
 
   -- the lines are told by the calls alone
   pub alike : (xs : List (Call M E)) (m n : ℕ) (ys zs : List Line) → m ≡ n

@@ -4,7 +4,7 @@ ghost use Rattle.kind.specs.Kinds.{unit_entry};
 ghost use Rattle.ledger.specs.Ledger.{fresh, step, message, draw, last_pair};
 ghost use Rattle.ledger.specs.Promise.{Promise};
 ghost use Rattle.ledger.specs.declared.parts.Answer.TheVariants.{Refused};
-ghost use Rattle.station.specs.Calls.{least as least-of, call_of, calls_of, verdict_is, after_verdict, work_after};
+ghost use Rattle.station.specs.Calls.{least as least_of, call_of, calls_of, verdict_is, after_verdict, work_after};
 ghost use Rattle.station.specs.View.{ledger_of, last_of, next_answer, opening_answer, message_answer, draw_answer, last_answer, withdrawal_answer, turn_answer, held_sort, held_numbers};
 
 use crate::call::{Call, LastPair};
@@ -19,7 +19,7 @@ use method::last_pair::clear_numbers;
 use method::method::Method;
 
 fn least(a: usize, b: usize) -> usize
-    ensures value { result ≡ least-of a b }
+    ensures value { result ≡ least_of a b }
     ensures left { result ≤ a }
     ensures right { result ≤ b }
 {
@@ -167,8 +167,8 @@ fn perform_last<K: Kind, M: Method>(
     work_elements: &mut [K::Entry],
     work_numbers: &mut [u32],
 ) -> Answer
-    ensures answer { result ≡ (step K.Kind.meaning (ledger_of station.old) (last_pair sort numbers (last_of p.entry.g.now p.entry.h.now p.entry.key p.entry.a p.entry.b (least-of p.entry.elements (length work_elements.old)) (least-of p.entry.numbers (length work_numbers.old))))).answer }
-    ensures ledger { ledger_of station.new ≡ (step K.Kind.meaning (ledger_of station.old) (last_pair sort numbers (last_of p.entry.g.now p.entry.h.now p.entry.key p.entry.a p.entry.b (least-of p.entry.elements (length work_elements.old)) (least-of p.entry.numbers (length work_numbers.old))))).ledger }
+    ensures answer { result ≡ (step K.Kind.meaning (ledger_of station.old) (last_pair sort numbers (last_of p.entry.g.now p.entry.h.now p.entry.key p.entry.a p.entry.b (least_of p.entry.elements (length work_elements.old)) (least_of p.entry.numbers (length work_numbers.old))))).answer }
+    ensures ledger { ledger_of station.new ≡ (step K.Kind.meaning (ledger_of station.old) (last_pair sort numbers (last_of p.entry.g.now p.entry.h.now p.entry.key p.entry.a p.entry.b (least_of p.entry.elements (length work_elements.old)) (least_of p.entry.numbers (length work_numbers.old))))).ledger }
     ensures kept { station.new.method ≡ station.old.method }
     ensures elements { work_elements.new ≡ after_verdict result (unit_entry K.Kind.meaning) work_elements.old }
     ensures numbers { work_numbers.new ≡ after_verdict result 0 work_numbers.old }

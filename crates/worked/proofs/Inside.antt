@@ -24,11 +24,11 @@ module _ {M E : Type 0} (s : Meaning M E) where
       ≡ Ok ((claim_of s k (record { gs = x ∷ []; hs = x ∷ []; l = a ∷ []; r = b ∷ [] })).a, (claim_of s k (record { gs = x ∷ []; hs = x ∷ []; l = a ∷ []; r = b ∷ [] })).b)
   one_claim e x k a b h p q = simp (h, p, q)
 
-pub claim-residues :
+pub claim_residues :
     claim_numbers residue_number
     (claim_answer residue_meaning (bench_entries residue_meaning 1) (bench_entries residue_meaning 1) residue_meaning.base (3 ∷ []) (5 ∷ []))
     ≡ Ok (4096, 36175872)
 unfolding power
-claim-residues =
+claim_residues =
     ap (claim_numbers residue_number)
     (one_claim residue_meaning _ (bench_element residue_meaning 0) residue_meaning.base 3 5 (residue_of_some (bench_element residue_meaning 0)) refl refl)

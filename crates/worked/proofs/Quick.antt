@@ -24,17 +24,17 @@ power_clear x (suc n) =
     ∙ ap (λ (m : ℕ). m % order) (add_comm x.v (n * x.v) ∙ sym (suc-mul n x.v))
 
 -- the number of x to the m, y to the n and k to the e, joined
-product-number : (x y k : Clear) (m n e : ℕ)
+product_number : (x y k : Clear) (m n e : ℕ)
     → (clear_group.join (product clear_group (x ∷ y ∷ []) (m ∷ n ∷ [])) (power clear_group k e)).v
     ≡ (((m * x.v) % order + ((n * y.v) % order + 0) % order) % order + (e * k.v) % order) % order
-product-number x y k m n e = simp power_clear
+product_number x y k m n e = simp power_clear
 
 commitment_number : (x y : Clear) (w : ℕ) → (clear_group.join x (power clear_group y w)).v ≡ (x.v + (w * y.v) % order) % order
 commitment_number x y w = simp power_clear
 
-bench-two : bench 2 ≡ 2 ∷ 3 ∷ []
+bench_two : bench 2 ≡ 2 ∷ 3 ∷ []
 unfolding power
-bench-two = refl
+bench_two = refl
 
 -- the numbers of both sides of the quick check's equation for the pair (14, 25)
 abbrev pub left : ℕ → ℕ
@@ -52,9 +52,9 @@ unfolding clear_of dec_lt
 quick_is w b served e ws h =
     let two = element_in clear_meaning 2 in
     let three = element_in clear_meaning 3 in
-    ap₂ (λ vs es. quick_answer clear_meaning (2 ∷ []) vs claim_folded es clear_meaning.base 14 25 w 2 2) (weights_are order (2 ∷ []) ws h) bench-two
+    ap₂ (λ vs es. quick_answer clear_meaning (2 ∷ []) vs claim_folded es clear_meaning.base 14 25 w 2 2) (weights_are order (2 ∷ []) ws h) bench_two
     ∙ ap (λ t. and_then t (λ _. Ok (quick_passes clear_meaning (1 ∷ 2 ∷ []) claim_folded (2 ∷ 3 ∷ []) clear_meaning.base 14 25 w)))
     (ap (λ t. and_then t (λ _. Ok tt)) served)
     ∙ ap Ok (
-    ap₂ eqb (product-number two three clear_meaning.base (14 * 2 + w * 25 * 1) (14 * 1 + w * 25 * 2) (w * 14 * 25)) (commitment_number claim_folded.a claim_folded.b w)
+    ap₂ eqb (product_number two three clear_meaning.base (14 * 2 + w * 25 * 1) (14 * 1 + w * 25 * 2) (w * 14 * 25)) (commitment_number claim_folded.a claim_folded.b w)
     ∙ e)

@@ -4,7 +4,7 @@ use Rattle.kind.specs.Faults.{wrapped}
 use Rattle.kind.specs.Kinds.{Meaning, Lawful, AllElements}
 use Rattle.kind.specs.Products.{entries_refusal}
 use Rattle.kind.proofs.Listed.{all_checked}
-use Rattle.kind.proofs.Steps.{both-went, held, unwrapped}
+use Rattle.kind.proofs.Steps.{both_went, held, unwrapped}
 use Rattle.method.specs.Meaning.{is_size}
 use Rattle.writer.specs.Ready.{Ready}
 use Rattle.writer.specs.Refusals.{size_refusal, length_refusal, sizes_refused, lengths_refused, length_one_refused, content_refused, claim_refused, message_refused, fold_refused}
@@ -41,7 +41,7 @@ size_within n h =
 -- the length of G is a size
 pub g_sized : (g h l r : ℕ) → sizes_refused g h l r ≡ Ok tt → is_size g ≡ true
 g_sized g h l r e =
-    let a = both-went (size_refusal g) _ tt e in
+    let a = both_went (size_refusal g) _ tt e in
     held (is_size g) (Size g) a.0 a.1
 
 pub record AsLong (g h l r : ℕ) : Type 0 where
@@ -51,9 +51,9 @@ pub record AsLong (g h l r : ℕ) : Type 0 where
 
 pub as_long : (g h l r : ℕ) → lengths_refused g h l r ≡ Ok tt → AsLong g h l r
 as_long g h l r e =
-    let a = both-went (length_refusal g h) _ tt e in
-    let b = both-went (length_refusal g l) _ tt a.2 in
-    let c = both-went (length_refusal g r) _ tt b.2 in
+    let a = both_went (length_refusal g h) _ tt e in
+    let b = both_went (length_refusal g l) _ tt a.2 in
+    let c = both_went (length_refusal g r) _ tt b.2 in
     record {
       long_h = eqb-true h g (held (eqb h g) (Length h) a.0 a.1);
       long_l = eqb-true l g (held (eqb l g) (Length l) b.0 b.1);
@@ -61,36 +61,36 @@ as_long g h l r e =
     }
 
 module _ {M E : Type 0} (s : Meaning M E) (laws : Lawful s) (gs hs : List E) (l r : List ℕ) where
-  pub both-elements : content_refused s gs hs l r ≡ Ok tt → AllElements s gs × AllElements s hs
-  both-elements e =
-      let p = both-went (wrapped Kind (entries_refusal s gs) 0) _ tt e in
-      let t = both-went (wrapped Kind (entries_refusal s hs) 0) _ tt p.2 in
+  pub both_elements : content_refused s gs hs l r ≡ Ok tt → AllElements s gs × AllElements s hs
+  both_elements e =
+      let p = both_went (wrapped Kind (entries_refusal s gs) 0) _ tt e in
+      let t = both_went (wrapped Kind (entries_refusal s hs) 0) _ tt p.2 in
       (all_checked s laws gs (unwrapped Kind (entries_refusal s gs) 0 p.0 p.1), all_checked s laws hs (unwrapped Kind (entries_refusal s hs) 0 t.0 t.1))
 
   pub ready : lengths_refused (length gs) (length hs) (length l) (length r) ≡ Ok tt → content_refused s gs hs l r ≡ Ok tt → Ready s gs hs l r
   ready e f =
       let a = as_long (length gs) (length hs) (length l) (length r) e in
-      let b = both-elements f in
+      let b = both_elements f in
       record { all_g = b.0; all_h = b.1; long_h = a.long_h; long_l = a.long_l; long_r = a.long_r }
 
-  pub claim-ready : claim_refused s gs hs l r ≡ Ok tt → Ready s gs hs l r
-  claim-ready e =
-      let a = both-went (sizes_refused (length gs) (length hs) (length l) (length r)) _ tt e in
-      let b = both-went (lengths_refused (length gs) (length hs) (length l) (length r)) _ tt a.2 in
-      let c = both-went (content_refused s gs hs l r) _ tt b.2 in
+  pub claim_ready : claim_refused s gs hs l r ≡ Ok tt → Ready s gs hs l r
+  claim_ready e =
+      let a = both_went (sizes_refused (length gs) (length hs) (length l) (length r)) _ tt e in
+      let b = both_went (lengths_refused (length gs) (length hs) (length l) (length r)) _ tt a.2 in
+      let c = both_went (content_refused s gs hs l r) _ tt b.2 in
       ready b.1 c.1
 
   -- and the lists have two halves
-  pub message-ready : message_refused s gs hs l r ≡ Ok tt → Ready s gs hs l r × (length gs / 2 + length gs / 2 ≡ length gs)
-  message-ready e =
-      let a = both-went (sizes_refused (length gs) (length hs) (length l) (length r)) _ tt e in
-      let b = both-went (lengths_refused (length gs) (length hs) (length l) (length r)) _ tt a.2 in
-      let c = both-went (length_one_refused (length gs)) _ tt b.2 in
-      let d = both-went (content_refused s gs hs l r) _ tt c.2 in
+  pub message_ready : message_refused s gs hs l r ≡ Ok tt → Ready s gs hs l r × (length gs / 2 + length gs / 2 ≡ length gs)
+  message_ready e =
+      let a = both_went (sizes_refused (length gs) (length hs) (length l) (length r)) _ tt e in
+      let b = both_went (lengths_refused (length gs) (length hs) (length l) (length r)) _ tt a.2 in
+      let c = both_went (length_one_refused (length gs)) _ tt b.2 in
+      let d = both_went (content_refused s gs hs l r) _ tt c.2 in
       let big = ltb-true 1 (length gs) (held (ltb 1 (length gs)) LengthOne c.0 c.1) in
       (ready b.1 d.1, size_even (length gs) (g_sized (length gs) (length hs) (length l) (length r) a.1) big)
 
-  pub fold-ready : (c : ℕ) → fold_refused s gs hs l r c ≡ Ok tt → Ready s gs hs l r × (length gs / 2 + length gs / 2 ≡ length gs)
-  fold-ready c e =
-      let a = both-went (message_refused s gs hs l r) _ tt e in
-      message-ready a.1
+  pub fold_ready : (c : ℕ) → fold_refused s gs hs l r c ≡ Ok tt → Ready s gs hs l r × (length gs / 2 + length gs / 2 ≡ length gs)
+  fold_ready c e =
+      let a = both_went (message_refused s gs hs l r) _ tt e in
+      message_ready a.1

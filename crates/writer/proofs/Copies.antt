@@ -10,7 +10,7 @@ use Rattle.writer.specs.Laying.{Laid}
 use Rattle.writer.specs.Records.{front_written, front_of, rest_of, record_of}
 use Rattle.writer.specs.Rows.{lists_in}
 use Rattle.writer.proofs.Laid.{next}
-use Rattle.writer.proofs.Lengths.{rounds-count}
+use Rattle.writer.proofs.Lengths.{rounds_count}
 use Rattle.writer.proofs.ListParts.{elements-append}
 
 module _ {A : Type 0} where
@@ -35,7 +35,7 @@ module _ {M E : Type 0} (s : Meaning M E) where
     pub record_laid : {p e : ℕ} {a b c : List ℕ} → Laid 0 (front_of s w key (length cs) x) a b p → Laid p (rest_of s w key cs x) b c e
         → Laid 0 (record_of s w key cs x) a c e
     record_laid {p} {e} {a} {b} {c} front rest =
-        subst (λ (k : ℕ). Laid 0 (front_written w k (claim_of s key x) ++ rest_of s w key cs x) a c e) (sym (rounds-count s key cs x)) (next front rest)
+        subst (λ (k : ℕ). Laid 0 (front_written w k (claim_of s key x) ++ rest_of s w key cs x) a c e) (sym (rounds_count s key cs x)) (next front rest)
 
     -- where there are no rounds, the rest is the last pair: the one entry of l and of r, copied one behind the other
     pub rest_none : (ns : List ℕ) → length cs ≡ 0 → ns ≡ x.l ++ x.r → length x.l ≡ 1

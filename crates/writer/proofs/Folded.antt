@@ -9,8 +9,8 @@ use Rattle.kind.proofs.Listed.{length-elements, element_entry, elements-entries,
 use Rattle.writer.proofs.ListParts.{all_append}
 
 -- the fold stands in front
-pub fold-front : {A : Type 0} (f : A → A → A) (m : ℕ) (ys a us : List A) → length ys ≡ m + m → a ≡ fold_by f ys ++ us → take m a ≡ fold_by f ys
-fold-front f m ys a us two is = ap (take m) is ∙ take_at (fold_by f ys) us m (length-fold f m ys two)
+pub fold_front : {A : Type 0} (f : A → A → A) (m : ℕ) (ys a us : List A) → length ys ≡ m + m → a ≡ fold_by f ys ++ us → take m a ≡ fold_by f ys
+fold_front f m ys a us two is = ap (take m) is ∙ take_at (fold_by f ys) us m (length-fold f m ys two)
 
 module _ {M E : Type 0} (s : Meaning M E) (laws : Lawful s) where
   all_units : (n : ℕ) → AllElements s (replicate n (unit_entry s))
@@ -19,8 +19,8 @@ module _ {M E : Type 0} (s : Meaning M E) (laws : Lawful s) where
 
   -- the elements of a list that was folded and cleared behind
   module _ (side : Side) (c m n : ℕ) (ys a : List E) (is : a ≡ map s.entry (fold_of s side c (elements s ys)) ++ replicate n (unit_entry s)) where
-    pub fold-all : AllElements s a
-    fold-all = subst (AllElements s) (sym is) (all_append s _ _ (all_entries s laws (fold_of s side c (elements s ys))) (all_units n))
+    pub fold_all : AllElements s a
+    fold_all = subst (AllElements s) (sym is) (all_append s _ _ (all_entries s laws (fold_of s side c (elements s ys))) (all_units n))
 
     pub fold-elements : length ys ≡ m + m → elements s (take m a) ≡ fold_of s side c (elements s ys)
     fold-elements two =

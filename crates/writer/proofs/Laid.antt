@@ -5,8 +5,8 @@ use Rattle.std.proofs.lemmas.List.{take_at, drop_at, drop-drop, drop_more, set_a
 use Rattle.writer.specs.Laying.{laid, Laid}
 
 module _ {A : Type 0} where
-  pub length-laid : (at : ℕ) (xs out : List A) → at + length xs ≤ length out → length (laid at xs out) ≡ length out
-  length-laid at xs out h = simp (length-append, length-take, length-drop) (omega arith)
+  pub length_laid : (at : ℕ) (xs out : List A) → at + length xs ≤ length out → length (laid at xs out) ≡ length out
+  length_laid at xs out h = simp (length-append, length-take, length-drop) (omega arith)
 
   pub laid_more : (at : ℕ) (xs ys out : List A) → at + length xs ≤ length out
       → laid (at + length xs) ys (laid at xs out) ≡ laid at (xs ++ ys) out
@@ -27,7 +27,7 @@ module _ {A : Type 0} where
 
   -- what was laid is as long as before
   pub kept : {at : ℕ} {xs out after : List A} {past : ℕ} → Laid at xs out after past → length after ≡ length out
-  kept {at} {xs} {out} h = ap length h.is ∙ length-laid at xs out h.room
+  kept {at} {xs} {out} h = ap length h.is ∙ length_laid at xs out h.room
 
   -- one after the other
   pub next : {at p e : ℕ} {xs ys a b c : List A} → Laid at xs a b p → Laid p ys b c e → Laid at (xs ++ ys) a c e

@@ -16,8 +16,8 @@ module _ {M : Type 0} (w : Writing M) (good : WellWritten w) where
       let b = good.filled y in
       length-append (w.bytes x) (w.bytes y) ∙ omega arith
 
-  pub round-long : (r : Round M) → length (round_written w r) ≡ size_of_round w.width
-  round-long r =
+  pub round_long : (r : Round M) → length (round_written w r) ≡ size_of_round w.width
+  round_long r =
       let a = pair_long r.lower.a r.lower.b in
       let b = good.filled r.upper.a in
       let c = good.filled r.upper.b in
@@ -26,13 +26,13 @@ module _ {M : Type 0} (w : Writing M) (good : WellWritten w) where
   pub rest_long : (rs : List (Round M)) (p : ℕ × ℕ) → length (rest_written w rs p) ≡ length rs * size_of_round w.width + 8
   rest_long [] p = omega arith
   rest_long (r ∷ rs) p =
-      let a = round-long r in
+      let a = round_long r in
       let b = rest_long rs p in
       let c = suc-mul (length rs) (size_of_round w.width) in
       length-append (round_written w r) (rest_written w rs p) ∙ omega arith
 
-  pub written-long : (c : Contents M) → length (written w c) ≡ record_length w.width (length c.rounds)
-  written-long c =
+  pub written_long : (c : Contents M) → length (written w c) ≡ record_length w.width (length c.rounds)
+  written_long c =
       let a = pair_long c.commitments.a c.commitments.b in
       let b = rest_long c.rounds c.last_pair in
       let d = length-append (w.bytes c.commitments.a ++ w.bytes c.commitments.b) (rest_written w c.rounds c.last_pair) in
@@ -44,14 +44,14 @@ module _ {M : Type 0} (w : Writing M) (good : WellWritten w) where
       omega arith
 
 -- a round for each challenge
-pub rounds-count : {M E : Type 0} (s : Meaning M E) (key : M) (cs : List ℕ) (x : Lists M) → length (rounds_of s key cs x) ≡ length cs
-rounds-count s key [] x = refl
-rounds-count s key (c ∷ cs) x = ap suc (rounds-count s key cs (folded s c x))
+pub rounds_count : {M E : Type 0} (s : Meaning M E) (key : M) (cs : List ℕ) (x : Lists M) → length (rounds_of s key cs x) ≡ length cs
+rounds_count s key [] x = refl
+rounds_count s key (c ∷ cs) x = ap suc (rounds_count s key cs (folded s c x))
 
 module _ {M E : Type 0} (s : Meaning M E) (w : Writing M) (good : WellWritten w) (key : M) (cs : List ℕ) (x : Lists M) where
   pub rest_of_long : length (rest_of s w key cs x) ≡ length cs * size_of_round w.width + 8
   rest_of_long =
-      rest_long w good (rounds_of s key cs x) (last_pair_of s key cs x) ∙ ap (λ (k : ℕ). k * size_of_round w.width + 8) (rounds-count s key cs x)
+      rest_long w good (rounds_of s key cs x) (last_pair_of s key cs x) ∙ ap (λ (k : ℕ). k * size_of_round w.width + 8) (rounds_count s key cs x)
 
   pub record_long : length (record_of s w key cs x) ≡ record_length w.width (length cs)
-  record_long = written-long w good (proof_of s key cs x) ∙ ap (record_length w.width) (rounds-count s key cs x)
+  record_long = written_long w good (proof_of s key cs x) ∙ ap (record_length w.width) (rounds_count s key cs x)

@@ -37,9 +37,9 @@ module _ {M E : Type 0} (s : Meaning M E) where
   all_append a b f h = ap (map s.entry) (elements-append a b) ∙ map-append s.entry (elements s a) (elements s b) ∙ ap₂ ◌++◌ f h
 
 -- the last m of ws were lent, and are x now
-pub cleared-half : {A : Type 0} (n m : ℕ) (ws fs ys : List A) (x : A) → length ws ≡ n → m + m ≡ n → take m ws ≡ fs
+pub cleared_half : {A : Type 0} (n m : ℕ) (ws fs ys : List A) (x : A) → length ws ≡ n → m + m ≡ n → take m ws ≡ fs
     → ys ≡ replicate (length (take (n - m) (drop m ws))) x → put_mid m (n - m) ws ys ≡ fs ++ replicate m x
-cleared-half n m ws fs ys x long even front is =
+cleared_half n m ws fs ys x long even front is =
     let left : length (drop m ws) ≡ m = length-drop m ws ∙ omega arith in
     let count : length (take (n - m) (drop m ws)) ≡ m = length-take-le (n - m) (drop m ws) (omega arith) ∙ omega arith in
     ap₂ (λ a b. a ++ (ys ++ b)) front (drop_all (n - m) (drop m ws) (omega arith))
@@ -47,11 +47,11 @@ cleared-half n m ws fs ys x long even front is =
 
 -- the first m of a list that was cut, and the rest, where m is half of its length
 module _ {A : Type 0} (m : ℕ) (xs ys : List A) where
-  pub half-first : ys ≡ take m xs → length xs / 2 ≡ m → ys ≡ first_half xs
-  half-first is e = is ∙ ap (λ n. take n xs) (sym e)
+  pub half_first : ys ≡ take m xs → length xs / 2 ≡ m → ys ≡ first_half xs
+  half_first is e = is ∙ ap (λ n. take n xs) (sym e)
 
-  pub half-last : ys ≡ drop m xs → length xs / 2 ≡ m → ys ≡ last_half xs
-  half-last is e = is ∙ ap (λ n. drop n xs) (sym e)
+  pub half_last : ys ≡ drop m xs → length xs / 2 ≡ m → ys ≡ last_half xs
+  half_last is e = is ∙ ap (λ n. drop n xs) (sym e)
 
   pub long_first : ys ≡ take m xs → m + m ≡ length xs → length ys ≡ m
   long_first is e = ap length is ∙ length-take-le m xs (omega arith)

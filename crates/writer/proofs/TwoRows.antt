@@ -22,8 +22,8 @@ module _ {A : Type 0} (n j : ℕ) (xs a : List A) (long : length xs ≡ n + n) (
   first_rest : drop (j - 0) xs ≡ drop j xs
   first_rest = let e : j - 0 ≡ j = omega arith in ap (λ i. drop i xs) e
 
-  pub first-lent : take (j - 0) xs ≡ take j xs
-  first-lent = let e : j - 0 ≡ j = omega arith in ap (λ i. take i xs) e
+  pub first_lent : take (j - 0) xs ≡ take j xs
+  first_lent = let e : j - 0 ≡ j = omega arith in ap (λ i. take i xs) e
 
   -- behind n nothing has changed
   pub behind : drop n after_first ≡ drop n xs
@@ -44,21 +44,21 @@ module _ {A : Type 0} (n j : ℕ) (xs a : List A) (long : length xs ≡ n + n) (
     abbrev pub after_both : List A
     after_both = put_mid n (n + j - n) after_first b
 
-    length-first : length after_first ≡ n + n
-    length-first =
+    length_first : length after_first ≡ n + n
+    length_first =
         let e = length-append a (post_of 0 (j - 0) xs) in
         let d = ap length first_rest ∙ length-drop j xs in
         omega arith
 
-    pub front-is : (m : ℕ) → m ≤ j → take m after_both ≡ take m a
-    front-is m h =
-        let e : length (take n after_first) ≡ n = length-take-le n after_first (omega (arith, length-first)) in
+    pub front_is : (m : ℕ) → m ≤ j → take m after_both ≡ take m a
+    front_is m h =
+        let e : length (take n after_first) ≡ n = length-take-le n after_first (omega (arith, length_first)) in
         take-append-le m (take n after_first) (b ++ drop (n + j - n) (drop n after_first)) (omega arith)
         ∙ take-take m n after_first (omega arith)
         ∙ take-append-le m a (post_of 0 (j - 0) xs) (omega arith)
 
     pub back_is : (m : ℕ) → m ≤ j → take m (drop n after_both) ≡ take m b
     back_is m h =
-        let e : length (take n after_first) ≡ n = length-take-le n after_first (omega (arith, length-first)) in
+        let e : length (take n after_first) ≡ n = length-take-le n after_first (omega (arith, length_first)) in
         ap (take m) (drop_at (take n after_first) (b ++ drop (n + j - n) (drop n after_first)) n e)
         ∙ take-append-le m b (drop (n + j - n) (drop n after_first)) (omega arith)

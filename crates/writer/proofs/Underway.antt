@@ -11,7 +11,7 @@ use Rattle.writer.specs.Laying.{laid, Laid}
 use Rattle.writer.specs.Records.{round_written, rest_of}
 use Rattle.writer.specs.Rows.{lists_in}
 use Rattle.writer.proofs.Laid.{laid_more, kept}
-use Rattle.writer.proofs.Lengths.{round-long}
+use Rattle.writer.proofs.Lengths.{round_long}
 
 module _ {M E : Type 0} (s : Meaning M E) (w : Writing M) (key : M) (cs : List ℕ) (n : ℕ) where
   -- the bytes of the round by c, at the lists x
@@ -39,7 +39,7 @@ module _ {M E : Type 0} (s : Meaning M E) (w : Writing M) (key : M) (cs : List �
       let x = lists_in s n m es ns in
       let c : ℕ = get_or cs i 0 in
       let a = ap length (rest_more i x lt) ∙ length-append (round_at c x) (rest_of s w key (drop (i + 1) cs) (folded s c x)) in
-      let b = round-long w good (round_of (lower (message_of s key x)) (upper (message_of s key x)) c) in
+      let b = round_long w good (round_of (lower (message_of s key x)) (upper (message_of s key x)) c) in
       omega (arith, h.to, h.room)
 
   -- a round was written

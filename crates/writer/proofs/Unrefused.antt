@@ -3,7 +3,7 @@ use Rattle.std.proofs.Common.{◌≡◌, ℕ, zero, suc, ◌+◌, ◌^◌, ◌<�
 use borrow.Author.Tests.{eqb-false}
 use Rattle.kind.proofs.Listed.{length-elements}
 use Rattle.kind.proofs.Scans.{none_bad}
-use Rattle.kind.proofs.Steps.{both-went, held}
+use Rattle.kind.proofs.Steps.{both_went, held}
 use Rattle.kind.specs.Both.{both_true}
 use Rattle.kind.specs.Faults.{wrapped, first_bad}
 use Rattle.kind.specs.Kinds.{Meaning, Lawful}
@@ -28,26 +28,26 @@ counted n k e =
 -- the lengths alone
 pub shaped : (g h l r k : ℕ) → shape_refused g h l r k ≡ Ok tt → (k ≤ 8) × (g ≡ 2 ^ k) × (g ≤ 256)
 shaped g h l r k e =
-    let a = both-went (sizes_refused g h l r) _ tt e in
-    let b = both-went (lengths_refused g h l r) _ tt a.2 in
-    let c = both-went (count_refused g k) _ tt b.2 in
+    let a = both_went (sizes_refused g h l r) _ tt e in
+    let b = both_went (lengths_refused g h l r) _ tt a.2 in
+    let c = both_went (count_refused g k) _ tt b.2 in
     let count = counted g k c.1 in
     (count.0, count.1, size_within g (g_sized g h l r a.1))
 
 -- room for the record and for two lists of n entries in either work list
 pub record Roomy (w n k out we wn : ℕ) : Type 0 where
   pub record_fits : record_length w k ≤ out
-  pub elements-fit : n + n ≤ we
+  pub elements_fit : n + n ≤ we
   pub numbers_fit : n + n ≤ wn
 
 roomy : (w n k out we wn : ℕ) → rooms_refused w n k out we wn ≡ Ok tt → Roomy w n k out we wn
 roomy w n k out we wn e =
-    let a = both-went (room_refusal (record_length w k) out) _ tt e in
-    let b = both-went (room_refusal (n + n) we) _ tt a.2 in
-    let c = both-went (room_refusal (n + n) wn) _ tt b.2 in
+    let a = both_went (room_refusal (record_length w k) out) _ tt e in
+    let b = both_went (room_refusal (n + n) we) _ tt a.2 in
+    let c = both_went (room_refusal (n + n) wn) _ tt b.2 in
     record {
       record_fits = has_room (record_length w k) out a.0 a.1;
-      elements-fit = has_room (n + n) we b.0 b.1;
+      elements_fit = has_room (n + n) we b.0 b.1;
       numbers_fit = has_room (n + n) wn c.0 c.1;
     }
 
@@ -62,23 +62,23 @@ neither true b e = (cc, cc)
 neither false b e = (refl, e)
 
 module _ {M E : Type 0} (s : Meaning M E) (laws : Lawful s) where
-  pub challenges-in : {F : Type 0} (fault : ℕ → F) (i : ℕ) (cs : List ℕ) → first_bad (no_challenge s) fault i cs ≡ Ok tt → Challenges s.order cs
-  challenges-in fault i [] e = tt
-  challenges-in fault i (c ∷ cs) e =
+  pub challenges_in : {F : Type 0} (fault : ℕ → F) (i : ℕ) (cs : List ℕ) → first_bad (no_challenge s) fault i cs ≡ Ok tt → Challenges s.order cs
+  challenges_in fault i [] e = tt
+  challenges_in fault i (c ∷ cs) e =
       let p = none_bad (no_challenge s) fault i c cs e in
       let n = neither (eqb c 0) (leb s.order c) p.0 in
       let apart = eqb-false c 0 n.0 in
-      (omega arith, leb-false s.order c n.1, challenges-in fault (i + 1) cs p.1)
+      (omega arith, leb-false s.order c n.1, challenges_in fault (i + 1) cs p.1)
 
   -- scalars below the order
   pub below : (gs hs : List E) (l r : List ℕ) → content_refused s gs hs l r ≡ Ok tt → ((i : ℕ) → get_or l i 0 < s.order) × ((i : ℕ) → get_or r i 0 < s.order)
   below gs hs l r e =
       let low = laws.order_low in
       let pos : 0 < s.order = omega arith in
-      let a = both-went (wrapped Kind (entries_refusal s gs) 0) _ tt e in
-      let b = both-went (wrapped Kind (entries_refusal s hs) 0) _ tt a.2 in
-      let c = both-went (scalars_refusal s l) _ tt b.2 in
-      let d = both-went (scalars_refusal s r) _ tt c.2 in
+      let a = both_went (wrapped Kind (entries_refusal s gs) 0) _ tt e in
+      let b = both_went (wrapped Kind (entries_refusal s hs) 0) _ tt a.2 in
+      let c = both_went (scalars_refusal s l) _ tt b.2 in
+      let d = both_went (scalars_refusal s r) _ tt c.2 in
       (all_below s.order NotAScalar pos 0 l c.1, all_below s.order NotAScalar pos 0 r d.1)
 
   -- what a whole-proof call that is not refused has been handed
@@ -91,13 +91,13 @@ module _ {M E : Type 0} (s : Meaning M E) (laws : Lawful s) where
   pub unrefused : (w : ℕ) (gs hs : List E) (l r cs : List ℕ) (out we wn : ℕ) → whole_refused s w gs hs l r cs out we wn ≡ Ok tt
       → Unrefused w gs hs l r cs out we wn
   unrefused w gs hs l r cs out we wn e =
-      let shape = both-went (shape_refused (length gs) (length hs) (length l) (length r) (length cs)) _ tt e in
-      let a = both-went (sizes_refused (length gs) (length hs) (length l) (length r)) _ tt shape.1 in
-      let b = both-went (lengths_refused (length gs) (length hs) (length l) (length r)) _ tt a.2 in
-      let c = both-went (count_refused (length gs) (length cs)) _ tt b.2 in
-      let d = both-went (rooms_refused w (length gs) (length cs) out we wn) _ tt shape.2 in
-      let f = both-went (content_refused s gs hs l r) _ tt d.2 in
-      let h = both-went (challenges_refusal s cs) _ tt f.2 in
+      let shape = both_went (shape_refused (length gs) (length hs) (length l) (length r) (length cs)) _ tt e in
+      let a = both_went (sizes_refused (length gs) (length hs) (length l) (length r)) _ tt shape.1 in
+      let b = both_went (lengths_refused (length gs) (length hs) (length l) (length r)) _ tt a.2 in
+      let c = both_went (count_refused (length gs) (length cs)) _ tt b.2 in
+      let d = both_went (rooms_refused w (length gs) (length cs) out we wn) _ tt shape.2 in
+      let f = both_went (content_refused s gs hs l r) _ tt d.2 in
+      let h = both_went (challenges_refusal s cs) _ tt f.2 in
       let long = as_long (length gs) (length hs) (length l) (length r) b.1 in
       let count = counted (length gs) (length cs) c.1 in
       let small = below gs hs l r f.1 in
@@ -112,7 +112,7 @@ module _ {M E : Type 0} (s : Meaning M E) (laws : Lawful s) where
           r = long.long_r ∙ count.1;
           l_below = small.0;
           r_below = small.1;
-          challenges = challenges-in NotAChallenge 0 cs h.1;
+          challenges = challenges_in NotAChallenge 0 cs h.1;
         };
         roomy = roomy w (length gs) (length cs) out we wn d.1;
       }

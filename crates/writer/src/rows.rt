@@ -1,6 +1,6 @@
 // The lists of a proof in two work lists: G and H one behind the other among the elements, l and r among the numbers.
 ghost use Rattle.std.specs.Prelude.{◌≡◌, ◌+◌, ◌≤◌, ◌++◌, length, take, drop};
-ghost use Rattle.kind.specs.Kinds.{elements as elements-of, AllElements};
+ghost use Rattle.kind.specs.Kinds.{elements as elements_of, AllElements};
 ghost use Rattle.kind.specs.Sides.{fold_of};
 ghost use Rattle.kind.specs.declared.side.Side.TheVariants.{OfG, OfH};
 ghost use Rattle.ledger.specs.Rules.{folded, message_of};
@@ -54,8 +54,8 @@ fn fold_element_rows<K: Kind>(c: u32, n: usize, m: usize, work: &mut [K::Entry])
     requires long { length work.old ≡ n + n }
     requires rows { m + m ≤ n }
     ensures checked { AllElements K.Kind.meaning work.new }
-    ensures g { take m (elements-of K.Kind.meaning work.new) ≡ fold_of K.Kind.meaning OfG c (take (m + m) (elements-of K.Kind.meaning work.old)) }
-    ensures h { take m (drop n (elements-of K.Kind.meaning work.new)) ≡ fold_of K.Kind.meaning OfH c (take (m + m) (drop n (elements-of K.Kind.meaning work.old))) }
+    ensures g { take m (elements_of K.Kind.meaning work.new) ≡ fold_of K.Kind.meaning OfG c (take (m + m) (elements_of K.Kind.meaning work.old)) }
+    ensures h { take m (drop n (elements_of K.Kind.meaning work.new)) ≡ fold_of K.Kind.meaning OfH c (take (m + m) (drop n (elements_of K.Kind.meaning work.old))) }
 {
     fold_elements::<K>(Side::OfG, c, &mut work[0..m + m]);
     fold_elements::<K>(Side::OfH, c, &mut work[n..n + (m + m)]);

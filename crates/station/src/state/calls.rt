@@ -5,7 +5,7 @@ ghost use Rattle.kind.specs.Pairs.{pair_of};
 ghost use Rattle.method.specs.Entries.{outside};
 ghost use Rattle.method.specs.Meaning.{cleared};
 ghost use Rattle.method.specs.Tables.{challenges};
-ghost use Rattle.ledger.specs.Ledger.{fresh, step, case_answer, same_numbers, numbers_at, of_sort, opening, message as message-call, draw as draw-call, last_pair, withdrawal, page_turn, lower, upper};
+ghost use Rattle.ledger.specs.Ledger.{fresh, step, case_answer, same_numbers, numbers_at, of_sort, opening, message as ledger_message, draw as ledger_draw, last_pair, withdrawal, page_turn, lower, upper};
 ghost use Rattle.ledger.specs.declared.parts.Sort.TheVariants as sort;
 ghost use Rattle.station.specs.View.{ledger_of, case_of, last_of, case_k, opening_answer, message_answer, draw_answer, last_answer, withdrawal_answer, turn_answer, held_sort, held_numbers};
 
@@ -204,8 +204,8 @@ impl<K: Kind, M: Method> Station<K, M> {
 
     // Takes a round's message. Refused by 1.
     pub fn message(&mut self, t: Waiting, m: Message<K>) -> Result<Heard, Back<Waiting>>
-        ensures answer { message_answer result ≡ (step K.Kind.meaning (ledger_of self.old) (message-call sort.Waiting t.numbers m)).answer }
-        ensures ledger { ledger_of self.new ≡ (step K.Kind.meaning (ledger_of self.old) (message-call sort.Waiting t.numbers m)).ledger }
+        ensures answer { message_answer result ≡ (step K.Kind.meaning (ledger_of self.old) (ledger_message sort.Waiting t.numbers m)).answer }
+        ensures ledger { ledger_of self.new ≡ (step K.Kind.meaning (ledger_of self.old) (ledger_message sort.Waiting t.numbers m)).ledger }
         ensures kept { self.new.method ≡ self.old.method }
         ensures back { IfErr result (λ b. b.token ≡ t) }
     {
@@ -248,8 +248,8 @@ impl<K: Kind, M: Method> Station<K, M> {
 
     // Folds the commitments by the challenge c. Refused by 1 and 13.
     pub fn draw(&mut self, t: Heard, c: u32) -> Result<Next, Back<Heard>>
-        ensures answer { draw_answer result ≡ (step K.Kind.meaning (ledger_of self.old) (draw-call sort.Heard t.numbers c)).answer }
-        ensures ledger { ledger_of self.new ≡ (step K.Kind.meaning (ledger_of self.old) (draw-call sort.Heard t.numbers c)).ledger }
+        ensures answer { draw_answer result ≡ (step K.Kind.meaning (ledger_of self.old) (ledger_draw sort.Heard t.numbers c)).answer }
+        ensures ledger { ledger_of self.new ≡ (step K.Kind.meaning (ledger_of self.old) (ledger_draw sort.Heard t.numbers c)).ledger }
         ensures kept { self.new.method ≡ self.old.method }
         ensures back { IfErr result (λ b. b.token ≡ t) }
     {

@@ -7,7 +7,7 @@ use Rattle.protocol.proofs.Weights.{weights_are}
 use Rattle.kind.specs.Clears.{clear_of}
 use Rattle.kind.specs.Constants.{order}
 use Rattle.kind.specs.Residues.{residue_unit, residue_of_some}
-use Rattle.worked.proofs.Inside.{outside, too_high, claim-residues}
+use Rattle.worked.proofs.Inside.{outside, too_high, claim_residues}
 use Rattle.worked.proofs.Quick.{quick_is}
 use Rattle.worked.proofs.worked_examples.Goals as goal
 
@@ -15,7 +15,7 @@ pub returns : goal.returns
 unfolding power clear_of dec_lt
 returns c = record {
   claim_of_one = refl;
-  claim_in_residues = claim-residues;
+  claim_in_residues = claim_residues;
   claim_of_two = refl;
   message_of_two = refl;
   fold_by_two = refl;

@@ -3,20 +3,20 @@ use Rattle.std.proofs.lemmas.Result.{err_from_is_err_and}
 use Rattle.kind.specs.Faults.{and_then, first_of}
 use Rattle.kind.specs.Kinds.{Meaning, unit_entry}
 use Rattle.kind.specs.declared.pair.Pair.{Pair}
-use Rattle.kind.proofs.Steps.{first-append, stopped, went}
+use Rattle.kind.proofs.Steps.{first_append, stopped, went}
 use Rattle.protocol.specs.Weights.{HWeights}
 use Rattle.method.specs.Meaning.{reduced, cleared}
 use Rattle.method.specs.QuickCheck.{quick_lengths, quick_content, quick_refused, quick_passes, quick_answer}
 use Rattle.method.specs.Tables.{challenges}
 use Rattle.method.specs.declared.fault.MethodFault.{MethodFault}
 use Rattle.method.proofs.QuickChecks.{quick_shaped, quick_all}
-use Rattle.method.proofs.Refused.{cleared-part, part_length}
+use Rattle.method.proofs.Refused.{cleared_part, part_length}
 use Rattle.method.proofs.quick.quick_check.Goals as goal
 
 -- the refusals of lengths come first, then those of content, then the verdict
 module _ {M E : Type 0} (s : Meaning M E) (cs ws : List ℕ) (z : Pair M) (gs : List E) (k : M) (a b w we wn : ℕ) where
   parts : quick_refused s cs gs a b w we wn ≡ and_then (first_of (quick_lengths (2 ^ length cs) (length gs) we wn)) (λ _. first_of (quick_content s gs a b w))
-  parts = first-append (quick_lengths (2 ^ length cs) (length gs) we wn) (quick_content s gs a b w)
+  parts = first_append (quick_lengths (2 ^ length cs) (length gs) we wn) (quick_content s gs a b w)
 
   by_lengths : (f : MethodFault) → first_of (quick_lengths (2 ^ length cs) (length gs) we wn) ≡ Err f → quick_answer s cs ws z gs k a b w we wn ≡ Err f
   by_lengths f e = stopped (quick_refused s cs gs a b w we wn) (λ _. Ok (quick_passes s ws z gs k a b w)) f (parts ∙ stopped _ (λ _. first_of (quick_content s gs a b w)) f e)
@@ -93,7 +93,7 @@ quick_decide_and_clear-requires g c =
     let h = quick_shaped n (length c.args.g.now) (length c.args.work_elements.now) (length wn) (sym c.check_quick_lengths.ensures ∙ c.in_ok-check_quick_lengths.was) in
     record {
       checked = quick_all s g.K.Kind.laws c.args.g.now c.args.a c.args.b c.args.weight (sym c.check_quick_content.ensures ∙ c.in_ok-check_quick_content.was);
-      long = h.fits-g ∙ is;
+      long = h.fits_g ∙ is;
       room = part_length wn n h.room_n ∙ is;
       few = c.challenges-cs.ensures.few;
     }
@@ -115,6 +115,6 @@ returns g c =
       answer = λ ws good.
           ap Ok (c.quick_decide_and_clear.ensures.verdict ws (subst (λ (l : List ℕ). HWeights s.order (reduced s l) ws) (sym c.challenges-cs.ensures.value) good))
           ∙ sym (by_verdict s cs ws c.args.z c.args.g.now c.args.key c.args.a c.args.b c.args.weight (length we) (length wn) d e);
-      elements = cleared-part we c.quick_decide_and_clear.new.elements m n (unit_entry s) same h.room_e c.quick_decide_and_clear.ensures.elements;
-      numbers = cleared-part wn c.quick_decide_and_clear.new.numbers m n 0 same h.room_n c.quick_decide_and_clear.ensures.numbers;
+      elements = cleared_part we c.quick_decide_and_clear.new.elements m n (unit_entry s) same h.room_e c.quick_decide_and_clear.ensures.elements;
+      numbers = cleared_part wn c.quick_decide_and_clear.new.numbers m n 0 same h.room_n c.quick_decide_and_clear.ensures.numbers;
     }

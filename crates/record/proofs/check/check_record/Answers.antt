@@ -7,7 +7,7 @@ use Rattle.record.specs.Contents.{contents_in}
 use Rattle.record.specs.Folded.{Reckoned, reckoned, seen, seen_in}
 use Rattle.record.specs.Parts.{rounds_in}
 use Rattle.record.specs.declared.fault.RecordFault.TheVariants.{Method}
-use Rattle.kind.proofs.Steps.{both-went}
+use Rattle.kind.proofs.Steps.{both_went}
 use Rattle.record.proofs.Passing.{contents_facts}
 use Rattle.record.proofs.check.check_record.Goals as goal
 
@@ -19,7 +19,7 @@ returns g c =
     let we = c.args.work_elements.now in
     let wn = c.args.work_numbers.now in
     let noted = c.in_ok-noted.noted in
-    let p = both-went (contents_in w s.order bs) _ (seen noted) (sym c.read_whole.ensures ∙ ap seen_in c.in_ok-noted.was) in
+    let p = both_went (contents_in w s.order bs) _ (seen noted) (sym c.read_whole.ensures ∙ ap seen_in c.in_ok-noted.was) in
     let x = p.0 in
     let h : Ok (reckoned s x) ≡ Ok (seen noted) = p.2 in
     let same : seen noted ≡ reckoned s x = cc in

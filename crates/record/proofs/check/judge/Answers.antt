@@ -7,7 +7,7 @@ use Rattle.record.specs.Answers.{reckoned_answer}
 use Rattle.record.specs.Folded.{seen}
 use Rattle.record.specs.declared.fault.RecordFault.TheVariants.{Method}
 use Rattle.kind.proofs.Steps.{passed_on}
-use Rattle.record.proofs.Passing.{cleared-wrapped}
+use Rattle.record.proofs.Passing.{cleared_wrapped}
 use Rattle.record.proofs.check.judge.Goals as goal
 
 pub returns-in-Ok : goal.returns-in-Ok
@@ -27,7 +27,7 @@ returns-in-Ok g c =
       answer = up ∙ ap (λ r. wrapped Method r 0) answer
           ∙ sym (ap (λ r. and_then (wrapped Method r 0) (λ _. reckoned_answer s (seen n) c.args.g.now c.args.h.now c.args.key (length we) (length wn))) p.1);
       elements = c.verdict-r.ensures.elements ∙ ap (λ (l : List ℕ). cleared c.verdict-r.result (2 ^ length l) (unit_entry s) we) same
-          ∙ cleared-wrapped Method c.verdict-r.result (2 ^ length cs) (unit_entry s) we ∙ sym (ap (λ r. cleared r (2 ^ length cs) (unit_entry s) we) up);
+          ∙ cleared_wrapped Method c.verdict-r.result (2 ^ length cs) (unit_entry s) we ∙ sym (ap (λ r. cleared r (2 ^ length cs) (unit_entry s) we) up);
       numbers = c.verdict-r.ensures.numbers ∙ ap (λ (l : List ℕ). cleared c.verdict-r.result (2 ^ length l) 0 wn) same
-          ∙ cleared-wrapped Method c.verdict-r.result (2 ^ length cs) 0 wn ∙ sym (ap (λ r. cleared r (2 ^ length cs) 0 wn) up);
+          ∙ cleared_wrapped Method c.verdict-r.result (2 ^ length cs) 0 wn ∙ sym (ap (λ r. cleared r (2 ^ length cs) 0 wn) up);
     }

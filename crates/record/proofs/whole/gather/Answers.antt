@@ -3,7 +3,7 @@ use Rattle.kind.specs.Faults.{and_then}
 use Rattle.record.specs.Folded.{Reckoned, seen, seen_in}
 use Rattle.record.specs.Noting.{taken_in, gathered, nothing, round_only, rounds_only, size_of, size_of_all}
 use Rattle.record.specs.Parts.{Piece, left, piece_of, pieces_in, rounds_in, size_of_claim, size_of_round}
-use Rattle.record.proofs.Pieces.{rounds-count, size_count}
+use Rattle.record.proofs.Pieces.{rounds_count, size_count}
 use Rattle.record.proofs.whole.gather.Goals as goal
 
 pub loop-part-init : goal.loop-part-init
@@ -16,7 +16,7 @@ loop-part-init g c =
     let start : Reckoned _ = nothing s in
     let few : rounds_in bs ≤ 8 = c.requires in
     let slim : width ≤ 64 = g.met.K.WrittenKind.writes.few in
-    let rounds = rounds-count (size_of_round width) (rounds_in bs) (drop (size_of_claim width) (drop 1 bs)) in
+    let rounds = rounds_count (size_of_round width) (rounds_in bs) (drop (size_of_claim width) (drop 1 bs)) in
     let sizes = size_count width (size_of_round width) (rounds_in bs) (drop (size_of_claim width) (drop 1 bs)) in
     let slim4 : size_of_round width ≤ 260 = omega arith in
     let most : rounds_in bs * size_of_round width ≤ 8 * 260 = mul-le-mul few slim4 in

@@ -9,7 +9,7 @@ use Rattle.station.specs.View.{ledger_of}
 use Rattle.writer.specs.Answers.{lists_of}
 use Rattle.writer.specs.declared.fault.WriterFault.{WriterFault}
 use Rattle.settle.specs.Cases.{passed_if_opened, if_judged, calls_from, calls_after, last_answer}
-use Rattle.settle.proofs.Free.{claim-free}
+use Rattle.settle.proofs.Free.{claim_free}
 use Rattle.settle.proofs.Opening.{goes_well, none_given}
 use Rattle.settle.proofs.play.play_admitted.Goals as goal
 
@@ -23,7 +23,7 @@ untouched is x y = ap (λ (b : Answer). if_judged {F = WriterFault} (Ok b) x y) 
 
 pub open_case-requires : goal.open_case-requires
 open_case-requires g c =
-    claim-free g.K.Kind.meaning g.K.Kind.laws c.args.g.now c.args.h.now c.args.l.now c.args.r.now c.args.cs.now
+    claim_free g.K.Kind.meaning g.K.Kind.laws c.args.g.now c.args.h.now c.args.l.now c.args.r.now c.args.cs.now
     c.requires.ready.all_g c.requires.ready.all_h c.requires.playable
 
 pub returns-in-Token : goal.returns-in-Token

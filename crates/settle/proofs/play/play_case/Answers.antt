@@ -4,7 +4,7 @@ use Rattle.kind.specs.Kinds.{unit_entry}
 use Rattle.ledger.specs.Ledger.{Ledger, final}
 use Rattle.ledger.specs.declared.parts.Answer.{Answer}
 use Rattle.ledger.specs.declared.parts.Answer.TheVariants.{Token, Verdict, Withdrawn, Turned, Refused}
-use Rattle.method.proofs.Refused.{cleared-part, part_length}
+use Rattle.method.proofs.Refused.{cleared_part, part_length}
 use Rattle.station.proofs.Turns.{part_same}
 use Rattle.station.specs.View.{ledger_of}
 use Rattle.writer.specs.declared.fault.WriterFault.{WriterFault}
@@ -21,7 +21,7 @@ lent : {A : Type 0} (a : Result Answer WriterFault) (xs ys : List A) (n : ℕ) (
     → ys ≡ if_judged a (replicate (length (take (n - 0) xs)) u) (take (n - 0) xs)
     → ys ++ drop (n - 0) xs ≡ if_judged a (replicate n u ++ drop n xs) xs
 lent (Ok (Token sort t)) xs ys n u room is = part_same xs ys (n - 0) is
-lent (Ok (Verdict b)) xs ys n u room is = cleared-part xs ys n n u refl room is
+lent (Ok (Verdict b)) xs ys n u room is = cleared_part xs ys n n u refl room is
 lent (Ok Withdrawn) xs ys n u room is = part_same xs ys (n - 0) is
 lent (Ok (Turned p)) xs ys n u room is = part_same xs ys (n - 0) is
 lent (Ok (Refused why)) xs ys n u room is = part_same xs ys (n - 0) is

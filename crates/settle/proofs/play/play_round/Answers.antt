@@ -1,5 +1,5 @@
 use Rattle.std.proofs.Common.{◌≡◌, ℕ, List, map, length, Ok, refl, ap, ◌∙◌, ap₂, arith}
-use Rattle.kind.proofs.Steps.{both-went, went}
+use Rattle.kind.proofs.Steps.{both_went, went}
 use Rattle.kind.specs.Kinds.{unit_entry}
 use Rattle.ledger.specs.Ledger.{step, message, draw}
 use Rattle.ledger.specs.Rules.{folded, message_of}
@@ -18,7 +18,7 @@ returns-in_err-sent g c =
     let hs = c.args.h.now in
     let l : List ℕ = c.args.l.now in
     let r : List ℕ = c.args.r.now in
-    let free = (both-went (message_refused s gs hs l r) _ tt c.requires).1 in
+    let free = (both_went (message_refused s gs hs l r) _ tt c.requires).1 in
     let was = c.in_err-sent.was in
     let is = c.message.ensures ∙ went (message_refused s gs hs l r) _ tt _ free refl in
     absurd (let z : ◌≡◌ {A = ℕ} 0 1 = cc in omega arith)
@@ -34,7 +34,7 @@ returns g c =
     let x = lists_of s gs hs l r in
     let t = c.args.token in
     let start = ledger_of c.args.station.now in
-    let free = (both-went (message_refused s gs hs l r) _ tt c.requires).1 in
+    let free = (both_went (message_refused s gs hs l r) _ tt c.requires).1 in
     let was = c.in_ok-sent.was in
     let is = c.message.ensures ∙ went (message_refused s gs hs l r) _ tt _ free refl in
     let sent_is : c.in_ok-sent.sent ≡ message_of s key x = cc in

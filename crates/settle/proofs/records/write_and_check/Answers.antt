@@ -9,10 +9,10 @@ use Rattle.record.specs.Parts.{record_length, rounds_in}
 use Rattle.writer.specs.Answers.{lists_of}
 use Rattle.writer.specs.Records.{record_of}
 use Rattle.writer.specs.Whole.{whole_refused, begun}
-use Rattle.writer.proofs.Lengths.{rounds-count, record_long}
+use Rattle.writer.proofs.Lengths.{rounds_count, record_long}
 use Rattle.writer.proofs.Unrefused.{unrefused}
-use Rattle.settle.proofs.Again.{refused_alike, cleared-again}
-use Rattle.settle.proofs.Passes.{written-passes}
+use Rattle.settle.proofs.Again.{refused_alike, cleared_again}
+use Rattle.settle.proofs.Passes.{written_passes}
 use Rattle.settle.proofs.records.write_and_check.Goals as goal
 
 pub returns-in_err-length : goal.returns-in_err-length
@@ -58,8 +58,8 @@ returns g c =
     let bs = record_of s w key cs x in
     let refused = whole_refused s w.width gs hs l r cs (length out) (length we) (length wn) in
     let done : c.whole_proof.result ≡ Ok c.in_ok-length.length = c.in_ok-length.was in
-    let went-well = passed_on refused (record_length w.width (length cs)) c.in_ok-length.length (sym c.whole_proof.ensures.answer ∙ done) in
-    let e : refused ≡ Ok tt = went-well.0 in
+    let went_well = passed_on refused (record_length w.width (length cs)) c.in_ok-length.length (sym c.whole_proof.ensures.answer ∙ done) in
+    let e : refused ≡ Ok tt = went_well.0 in
     let known = unrefused s laws w.width gs hs l r cs (length out) (length we) (length wn) e in
     let stands : c.whole_proof.new.out ≡ bs ++ drop (length bs) out = c.whole_proof.ensures.out ∙ ap (λ a. begun a bs out) done in
     let units : c.whole_proof.new.work_elements ≡ replicate (n + n) (unit_entry s) ++ drop (n + n) we =
@@ -67,25 +67,25 @@ returns g c =
     let zeros : c.whole_proof.new.work_numbers ≡ replicate (n + n) 0 ++ drop (n + n) wn =
     c.whole_proof.ensures.numbers ∙ ap (λ a. cleared a (n + n) 0 wn) done in
     let written : c.cut.result.0.now ≡ bs =
-    c.cut.ensures.front ∙ ap₂ take went-well.2 stands ∙ take_at bs (drop (length bs) out) (record_length w.width (length cs)) (record_long s w good key cs x) in
-    let room_e : n ≤ length c.whole_proof.new.work_elements = omega (arith, known.roomy.elements-fit) in
+    c.cut.ensures.front ∙ ap₂ take went_well.2 stands ∙ take_at bs (drop (length bs) out) (record_length w.width (length cs)) (record_long s w good key cs x) in
+    let room_e : n ≤ length c.whole_proof.new.work_elements = omega (arith, known.roomy.elements_fit) in
     let room_n : n ≤ length c.whole_proof.new.work_numbers = omega (arith, known.roomy.numbers_fit) in
     let pass : c.check_record.result ≡ Ok true =
     c.check_record.ensures.answer
     ∙ ap (λ b. record_answer s w b gs hs key (length c.whole_proof.new.work_elements) (length c.whole_proof.new.work_numbers)) written
-    ∙ written-passes s laws w good gs hs key l r cs (length out) (length we) (length wn) e
+    ∙ written_passes s laws w good gs hs key l r cs (length out) (length we) (length wn) e
     (length c.whole_proof.new.work_elements) (length c.whole_proof.new.work_numbers) room_e room_n in
     let size : 2 ^ rounds_in c.cut.result.0.now ≡ n =
-    ap (λ (b : List ℕ). 2 ^ rounds_in b) written ∙ ap (λ (k : ℕ). 2 ^ k) (rounds-count s key cs x) ∙ sym known.size in
+    ap (λ (b : List ℕ). 2 ^ rounds_in b) written ∙ ap (λ (k : ℕ). 2 ^ k) (rounds_count s key cs x) ∙ sym known.size in
     record {
       answer = ap Ok pass ∙ sym (went refused _ tt _ e refl);
       out = stands;
       elements = c.check_record.ensures.elements
           ∙ ap (λ a. cleared a (2 ^ rounds_in c.cut.result.0.now) (unit_entry s) c.whole_proof.new.work_elements) pass
           ∙ ap₂ (λ (m : ℕ) es. replicate m (unit_entry s) ++ drop m es) size units
-          ∙ cleared-again n n (unit_entry s) (drop (n + n) we);
+          ∙ cleared_again n n (unit_entry s) (drop (n + n) we);
       numbers = c.check_record.ensures.numbers
           ∙ ap (λ a. cleared a (2 ^ rounds_in c.cut.result.0.now) 0 c.whole_proof.new.work_numbers) pass
           ∙ ap₂ (λ (m : ℕ) ns. replicate m 0 ++ drop m ns) size zeros
-          ∙ cleared-again n n 0 (drop (n + n) wn);
+          ∙ cleared_again n n 0 (drop (n + n) wn);
     }

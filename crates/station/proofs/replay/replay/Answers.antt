@@ -1,7 +1,7 @@
 use Rattle.std.proofs.Common.{◌≡◌, ℕ, length, drop, replicate, ap, ◌∙◌, subst, arith}
 use Rattle.std.proofs.lemmas.List.{take_more_set, drop-set-lt}
 use Rattle.kind.specs.Kinds.{unit_entry}
-use Rattle.station.proofs.Turns.{turn, done, drop-least}
+use Rattle.station.proofs.Turns.{turn, done, drop_least}
 use Rattle.station.proofs.replay.replay.Goals as goal
 
 pub loop-i-preserved : goal.loop-i-preserved
@@ -27,7 +27,7 @@ returns g c =
       promise =
           done g.K.Kind.meaning _ g.K.Kind.laws _ _ calls out _ c.least-n.result c.loop-i.i _ same c.least-n.ensures.value all inv.0;
       rest =
-          drop-least c.args.out.now out (length calls) same
+          drop_least c.args.out.now out (length calls) same
           (subst (λ (n : ℕ). drop n out ≡ drop n c.args.out.now) c.least-n.ensures.value inv.1);
       elements = c.clear_entries.ensures ∙ ap (λ (n : ℕ). replicate n (unit_entry g.K.Kind.meaning)) c.loop-i.auto.elements;
       numbers = c.clear_numbers.ensures ∙ ap (λ (n : ℕ). replicate n 0) c.loop-i.auto.numbers;

@@ -3,7 +3,7 @@ use Rattle.std.proofs.lemmas.List.{take_all}
 use Rattle.kind.specs.Kinds.{elements, unit_entry}
 use Rattle.kind.specs.Sides.{fold_of}
 use Rattle.kind.proofs.Listed.{length-elements}
-use Rattle.writer.proofs.ListParts.{map-take, cleared-half}
+use Rattle.writer.proofs.ListParts.{map-take, cleared_half}
 use Rattle.writer.proofs.folds.fold_elements.Goals as goal
 
 pub returns : goal.returns
@@ -18,4 +18,4 @@ returns g c =
     let front : take m ws ≡ map s.entry (fold_of s c.args.side c.args.c (elements s xs)) =
     ap (take m) (sym c.fold_within.ensures.checked) ∙ sym (map-take s.entry m (elements s ws))
     ∙ ap (map s.entry) (c.fold_within.ensures.folded ∙ ap (fold_of s c.args.side c.args.c) all) in
-    cleared-half n m ws _ c.clear_entries.new.entries (unit_entry s) (omega arith) even front c.clear_entries.ensures
+    cleared_half n m ws _ c.clear_entries.new.entries (unit_entry s) (omega arith) even front c.clear_entries.ensures

@@ -1,7 +1,7 @@
 use Rattle.std.proofs.Common.{◌≡◌, ℕ, ◌+◌, ◌/◌, List, length, take, ap, ◌∙◌, arith}
 use Rattle.std.proofs.lemmas.List.{take_all}
 use Rattle.writer.specs.Folds.{folds_scalars}
-use Rattle.writer.proofs.ListParts.{cleared-half}
+use Rattle.writer.proofs.ListParts.{cleared_half}
 use Rattle.writer.proofs.folds.fold_scalars.Goals as goal
 
 pub returns : goal.returns
@@ -12,5 +12,5 @@ returns g c =
     let m : ℕ = n / 2 in
     let even : m + m ≡ n = c.requires in
     let all : take (m + m) xs ≡ xs = take_all (m + m) xs (omega arith) in
-    cleared-half n m c.fold_scalars_within.new.xs _ c.clear_numbers.new.numbers 0 (omega arith) even
+    cleared_half n m c.fold_scalars_within.new.xs _ c.clear_numbers.new.numbers 0 (omega arith) even
     (c.fold_scalars_within.ensures ∙ ap (folds_scalars q c.args.side c.args.c) all) c.clear_numbers.ensures

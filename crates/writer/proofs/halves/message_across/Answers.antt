@@ -1,7 +1,7 @@
 use Rattle.std.proofs.Common.{ℕ, ◌/◌, length, sym, ◌∙◌, subst, arith}
 use Rattle.protocol.specs.Halving.{claim1, claim2}
 use Rattle.kind.specs.Kinds.{AllElements}
-use Rattle.writer.proofs.ListParts.{all_take, all_drop, half-first, half-last, entries_first, entries_last, long_first, long_last}
+use Rattle.writer.proofs.ListParts.{all_take, all_drop, half_first, half_last, entries_first, entries_last, long_first, long_last}
 use Rattle.writer.proofs.halves.message_across.Goals as goal
 
 pub join_powers-l1-requires : goal.join_powers-l1-requires
@@ -64,10 +64,10 @@ returns g c =
     let gb = entries_last s m c.args.g.now _ c.cut.ensures.back (omega arith) in
     let ha = entries_first s m c.args.h.now _ c.cut-2.ensures.front (omega (arith, p.long_h)) in
     let hb = entries_last s m c.args.h.now _ c.cut-2.ensures.back (omega (arith, p.long_h)) in
-    let la = half-first m c.args.l.now _ c.cut-3.ensures.front (omega (arith, p.long_l)) in
-    let lb = half-last m c.args.l.now _ c.cut-3.ensures.back (omega (arith, p.long_l)) in
-    let ra = half-first m c.args.r.now _ c.cut-4.ensures.front (omega (arith, p.long_r)) in
-    let rb = half-last m c.args.r.now _ c.cut-4.ensures.back (omega (arith, p.long_r)) in
+    let la = half_first m c.args.l.now _ c.cut-3.ensures.front (omega (arith, p.long_l)) in
+    let lb = half_last m c.args.l.now _ c.cut-3.ensures.back (omega (arith, p.long_l)) in
+    let ra = half_first m c.args.r.now _ c.cut-4.ensures.front (omega (arith, p.long_r)) in
+    let rb = half_last m c.args.r.now _ c.cut-4.ensures.back (omega (arith, p.long_r)) in
     let l1 = c.join_powers-l1.ensures ∙ (λ i. claim1 q o (ga i) (lb i)) in
     let l2 = c.commit_second-l2.ensures ∙ (λ i. claim2 q o k (hb i) (lb i) (ra i)) in
     let r1 = c.join_powers-r1.ensures ∙ (λ i. claim1 q o (gb i) (la i)) in

@@ -3,9 +3,9 @@ use Rattle.std.proofs.lemmas.List.{length-take-le}
 use Rattle.kind.specs.Kinds.{elements, AllElements}
 use Rattle.kind.specs.Sides.{fold_of}
 use Rattle.kind.specs.declared.side.Side.TheVariants.{OfG, OfH}
-use Rattle.writer.proofs.Folded.{fold-all, fold-elements}
+use Rattle.writer.proofs.Folded.{fold_all, fold-elements}
 use Rattle.writer.proofs.ListParts.{elements-take, elements-drop, all_take, all_drop, all_append}
-use Rattle.writer.proofs.TwoRows.{after_first, first-lent, second_lent, front-is, back_is}
+use Rattle.writer.proofs.TwoRows.{after_first, first_lent, second_lent, front_is, back_is}
 use Rattle.writer.proofs.rows.fold_element_rows.Goals as goal
 
 pub fold_elements-requires : goal.fold_elements-requires
@@ -50,7 +50,7 @@ returns g c =
     let rows = c.requires.rows in
     let one = length-take-le (j - 0) xs (omega arith) in
     let la : length a ≡ j = omega arith in
-    let first = first-lent n j xs a long rows la in
+    let first = first_lent n j xs a long rows la in
     let second = second_lent n j xs a long rows la in
     let d = length-drop n xs in
     let two = ap length second ∙ length-take-le j (drop n xs) (omega arith) in
@@ -58,18 +58,18 @@ returns g c =
     let start = after_first n j xs a long rows la in
     let ys = take (j - 0) xs in
     let zs = take (n + j - n) (drop n start) in
-    let all-a = fold-all s laws OfG ch m (length ys / 2) ys a c.fold_elements.ensures in
-    let all-b = fold-all s laws OfH ch m (length zs / 2) zs b c.fold_elements-2.ensures in
-    let whole-a : length ys ≡ m + m = omega arith in
-    let whole-b : length zs ≡ m + m = two in
-    let all_first : AllElements s start = all_append s a (drop (j - 0) xs) all-a (all_drop s (j - 0) xs c.requires.checked) in
+    let all_a = fold_all s laws OfG ch m (length ys / 2) ys a c.fold_elements.ensures in
+    let all_b = fold_all s laws OfH ch m (length zs / 2) zs b c.fold_elements-2.ensures in
+    let whole_a : length ys ≡ m + m = omega arith in
+    let whole_b : length zs ≡ m + m = two in
+    let all_first : AllElements s start = all_append s a (drop (j - 0) xs) all_a (all_drop s (j - 0) xs c.requires.checked) in
     record {
       checked = all_append s (take n start) (b ++ drop (n + j - n) (drop n start)) (all_take s n start all_first)
-          (all_append s b (drop (n + j - n) (drop n start)) all-b (all_drop s (n + j - n) (drop n start) (all_drop s n start all_first)));
-      g = sym (elements-take s m _) ∙ ap (elements s) (front-is n j xs a long rows la b lb m (omega arith))
-          ∙ fold-elements s laws OfG ch m (length ys / 2) ys a c.fold_elements.ensures whole-a
+          (all_append s b (drop (n + j - n) (drop n start)) all_b (all_drop s (n + j - n) (drop n start) (all_drop s n start all_first)));
+      g = sym (elements-take s m _) ∙ ap (elements s) (front_is n j xs a long rows la b lb m (omega arith))
+          ∙ fold-elements s laws OfG ch m (length ys / 2) ys a c.fold_elements.ensures whole_a
           ∙ ap (fold_of s OfG ch) (ap (elements s) first ∙ elements-take s j xs);
       h = ap (take m) (sym (elements-drop s n _)) ∙ sym (elements-take s m _) ∙ ap (elements s) (back_is n j xs a long rows la b lb m (omega arith))
-          ∙ fold-elements s laws OfH ch m (length zs / 2) zs b c.fold_elements-2.ensures whole-b
+          ∙ fold-elements s laws OfH ch m (length zs / 2) zs b c.fold_elements-2.ensures whole_b
           ∙ ap (fold_of s OfH ch) (ap (elements s) second ∙ elements-take s j (drop n xs) ∙ ap (take j) (elements-drop s n xs));
     }

@@ -1,7 +1,7 @@
 use Rattle.std.proofs.Common.{◌≡◌, ℕ, ◌+◌, List, ◌++◌, length, drop, Ok, sym, refl, ap, ◌∙◌, arith, rules}
 use Rattle.kind.specs.Kinds.{unit_entry}
 use Rattle.kind.proofs.Steps.{went}
-use Rattle.method.proofs.Refused.{cleared-part, part_length}
+use Rattle.method.proofs.Refused.{cleared_part, part_length}
 use Rattle.record.specs.Parts.{record_length}
 use Rattle.writer.specs.Answers.{lists_of}
 use Rattle.writer.specs.Records.{record_of}
@@ -14,7 +14,7 @@ overflow_add-twice g c =
     let e = sym c.admit_whole.ensures ∙ c.in_ok-admit_whole.was in
     let a = unrefused g.K.Kind.meaning g.K.Kind.laws g.K.WrittenKind.writing.width c.args.g.now c.args.h.now c.args.l.now c.args.r.now
     c.args.challenges.now (length c.args.out.now) (length c.args.work_elements.now) (length c.args.work_numbers.now) e in
-    let fits = a.roomy.elements-fit in
+    let fits = a.roomy.elements_fit in
     search rules
 
 pub slice_bounds-write_record-end : goal.slice_bounds-write_record-end
@@ -22,7 +22,7 @@ slice_bounds-write_record-end g c =
     let e = sym c.admit_whole.ensures ∙ c.in_ok-admit_whole.was in
     let a = unrefused g.K.Kind.meaning g.K.Kind.laws g.K.WrittenKind.writing.width c.args.g.now c.args.h.now c.args.l.now c.args.r.now
     c.args.challenges.now (length c.args.out.now) (length c.args.work_elements.now) (length c.args.work_numbers.now) e in
-    let fits = a.roomy.elements-fit in
+    let fits = a.roomy.elements_fit in
     search rules
 
 pub slice_bounds-write_record-end-2 : goal.slice_bounds-write_record-end-2
@@ -46,7 +46,7 @@ write_record-requires g c =
       size = a.size;
       few = a.playable.few;
       room_out = a.roomy.record_fits;
-      room_elements = part_length we (n + n) a.roomy.elements-fit;
+      room_elements = part_length we (n + n) a.roomy.elements_fit;
       room_numbers = part_length wn (n + n) a.roomy.numbers_fit;
     }
 
@@ -70,6 +70,6 @@ returns g c =
     record {
       answer = ap Ok p ∙ sym (went _ _ tt _ e refl);
       out = wrote.is ∙ ap (λ (j : ℕ). bs ++ drop j out) z;
-      elements = cleared-part we c.write_record.new.elements (n + n) (n + n) (unit_entry s) refl a.roomy.elements-fit c.write_record.ensures.elements;
-      numbers = cleared-part wn c.write_record.new.numbers (n + n) (n + n) 0 refl a.roomy.numbers_fit c.write_record.ensures.numbers;
+      elements = cleared_part we c.write_record.new.elements (n + n) (n + n) (unit_entry s) refl a.roomy.elements_fit c.write_record.ensures.elements;
+      numbers = cleared_part wn c.write_record.new.numbers (n + n) (n + n) 0 refl a.roomy.numbers_fit c.write_record.ensures.numbers;
     }

@@ -6,15 +6,15 @@ use Rattle.method.specs.Meaning.{length_refusals, content_refusals, method_refus
 use Rattle.kind.specs.declared.pair.Pair.{Pair}
 use Rattle.method.specs.Tables.{challenges}
 use Rattle.method.specs.declared.fault.MethodFault.{MethodFault}
-use Rattle.kind.proofs.Steps.{first-append, stopped, went}
-use Rattle.method.proofs.Refused.{shaped, all_both, cleared-part, part_length}
+use Rattle.kind.proofs.Steps.{first_append, stopped, went}
+use Rattle.method.proofs.Refused.{shaped, all_both, cleared_part, part_length}
 use Rattle.method.proofs.method.Method.verdict.Goals as goal
 
 -- the refusals of lengths come first, then those of content, then the verdict
 module _ {M E : Type 0} (s : Meaning M E) (cs : List ℕ) (z : Pair M) (gs hs : List E) (k : M) (a b we wn : ℕ) where
   parts : method_refused s cs gs hs a b we wn
       ≡ and_then (first_of (length_refusals (2 ^ length cs) (length gs) (length hs) we wn)) (λ _. first_of (content_refusals s gs hs a b))
-  parts = first-append (length_refusals (2 ^ length cs) (length gs) (length hs) we wn) (content_refusals s gs hs a b)
+  parts = first_append (length_refusals (2 ^ length cs) (length gs) (length hs) we wn) (content_refusals s gs hs a b)
 
   by_lengths : (f : MethodFault) → first_of (length_refusals (2 ^ length cs) (length gs) (length hs) we wn) ≡ Err f
       → method_answer s cs z gs hs k a b we wn ≡ Err f
@@ -96,8 +96,8 @@ decide_and_clear-requires g c =
     record {
       all_g = all.0;
       all_h = all.1;
-      long_g = h.fits-g ∙ is;
-      long_h = h.fits-h ∙ is;
+      long_g = h.fits_g ∙ is;
+      long_h = h.fits_h ∙ is;
       elements_room = part_length we n h.room_e ∙ is;
       numbers_room = part_length wn n h.room_n ∙ is;
       few = c.challenges-cs.ensures.few;
@@ -121,6 +121,6 @@ returns g c =
     ∙ ap (λ l. verdict_of s l c.args.z c.args.g.now c.args.h.now c.args.key c.args.a c.args.b) c.challenges-cs.ensures.value in
     record {
       answer = ap Ok v ∙ sym (by_verdict s cs c.args.z c.args.g.now c.args.h.now c.args.key c.args.a c.args.b (length we) (length wn) d e);
-      elements = cleared-part we c.decide_and_clear.new.elements m n (unit_entry s) same h.room_e c.decide_and_clear.ensures.elements;
-      numbers = cleared-part wn c.decide_and_clear.new.numbers m n 0 same h.room_n c.decide_and_clear.ensures.numbers;
+      elements = cleared_part we c.decide_and_clear.new.elements m n (unit_entry s) same h.room_e c.decide_and_clear.ensures.elements;
+      numbers = cleared_part wn c.decide_and_clear.new.numbers m n 0 same h.room_n c.decide_and_clear.ensures.numbers;
     }

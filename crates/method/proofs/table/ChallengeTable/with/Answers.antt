@@ -4,7 +4,7 @@ use Rattle.kind.specs.Faults.{first_bad}
 use Rattle.method.specs.Entries.{outside, any_bad}
 use Rattle.method.specs.Tables.{challenges}
 use Rattle.method.specs.declared.fault.MethodFault.TheVariants.{NotAChallenge}
-use Rattle.method.proofs.Sized.{counted, bad-push, any_push, table-takes}
+use Rattle.method.proofs.Sized.{counted, bad_push, any_push, table_takes}
 use Rattle.method.proofs.table.ChallengeTable.with.Goals as goal
 
 pub returns-then-is_outside : goal.returns-then-is_outside
@@ -17,7 +17,7 @@ returns-then-is_outside c =
     let few : leb (length (cs ++ x ∷ [])) 8 ≡ true = le-leb (length (cs ++ x ∷ [])) 8 (omega arith) in
     let at : 0 + length cs ≡ t.len = omega arith in
     let bad : first_bad outside NotAChallenge 0 (cs ++ x ∷ []) ≡ Err (NotAChallenge t.len) =
-    bad-push outside NotAChallenge 0 cs x t.ok.2
+    bad_push outside NotAChallenge 0 cs x t.ok.2
     ∙ ap (λ b. cond b (Err (NotAChallenge (0 + length cs))) (Ok tt)) (sym c.is_outside.ensures ∙ c.if-is_outside.true)
     ∙ ap (λ (k : ℕ). Err (NotAChallenge k)) at in
     simp (few, bad)
@@ -48,4 +48,4 @@ returns c =
     let n = counted t in
     let eight : length t.entries ≡ 8 = t.ok.0 in
     let fine = sym c.is_outside.ensures ∙ c.if-is_outside.false in
-    ap Ok (take_more_set t.entries t.len x (omega arith)) ∙ sym (table-takes t x (omega arith) fine)
+    ap Ok (take_more_set t.entries t.len x (omega arith)) ∙ sym (table_takes t x (omega arith) fine)
