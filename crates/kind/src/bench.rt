@@ -8,7 +8,7 @@ use crate::kind::Kind;
 pub fn fill_bench<K: Kind>(entries: &mut [K::Entry])
     ensures { entries.new ≡ bench_entries K.Kind.meaning (length entries.old) }
 {
-    for i in 0..entries.len() {
-        entries[i] = K::base().power((2 + i % 9) as u32).to_entry();
+    for (i, entry) in entries.iter_mut().enumerate() {
+        *entry = K::base().power((2 + i % 9) as u32).to_entry();
     }
 }

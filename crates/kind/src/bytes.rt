@@ -7,18 +7,14 @@ pub fn cut<T>(xs: &[T], n: usize) -> (&[T], &[T])
     ensures front { result.0.now ≡ take n xs.now }
     ensures back { result.1.now ≡ drop n xs.now }
 {
-    if n < xs.len() {
-        xs.split_at(n)
-    } else {
-        xs.split_at(xs.len())
-    }
+    xs.split_at(n.min(xs.len()))
 }
 
 // The byte at a place, and 0 behind the end.
 pub fn byte_at(bytes: &[u8], i: usize) -> u8
     ensures { result ≡ slice_index bytes.now i }
 {
-    if i < bytes.len() { bytes[i] } else { 0 }
+    bytes.get(i).copied().unwrap_or(0)
 }
 
 // The number that the first four bytes write; a byte that is not there counts as 0.

@@ -29,7 +29,7 @@ impl Kind for Clear {
     }
 
     fn same(self, other: Clear) -> bool {
-        self.v == other.v
+        self == other
     }
 
     fn order() -> u32 {

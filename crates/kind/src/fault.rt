@@ -36,23 +36,15 @@ impl KindFault {
     pub fn refusal(self) -> Refusal
         ensures { result ≡ kind_refusal self }
     {
-        let layer = Layer::Kind;
-        match self {
-            KindFault::Length(place) => Refusal {
-                number: 6,
-                layer,
-                place,
-            },
-            KindFault::NotAnElement(place) => Refusal {
-                number: 11,
-                layer,
-                place,
-            },
-            KindFault::NotAScalar(place) => Refusal {
-                number: 12,
-                layer,
-                place,
-            },
+        let (number, place) = match self {
+            KindFault::Length(place) => (6, place),
+            KindFault::NotAnElement(place) => (11, place),
+            KindFault::NotAScalar(place) => (12, place),
+        };
+        Refusal {
+            number,
+            layer: Layer::Kind,
+            place,
         }
     }
 }

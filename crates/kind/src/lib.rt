@@ -3,10 +3,12 @@
 
 pub mod bench;
 pub mod bytes;
+pub mod checked;
 pub mod clear;
 pub mod clears;
 pub mod entries;
 pub mod fault;
+pub mod folds;
 pub mod kind;
 pub mod modular;
 pub mod pair;

@@ -31,7 +31,7 @@ pub(crate) fn pow_mod(v: u32, e: u32, m: u32) -> u32
             acc = mul_mod(acc, b, m);
         }
         b = mul_mod(b, b, m);
-        n = n / 2;
+        n /= 2;
     }
     acc
 }

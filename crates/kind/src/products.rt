@@ -1,22 +1,26 @@
 // Products of powers, in any kind.
-ghost use Rattle.std.specs.Prelude.{◌≡◌};
+ghost use Rattle.std.specs.Prelude.{◌≡◌, nat_le, position};
 ghost use Rattle.kind.specs.Products.{scalars_refusal, product_answer};
 
-use crate::entries::check_entries;
+use crate::checked::Checked;
 use crate::fault::KindFault;
 use crate::kind::Kind;
+
+fn first_no_scalar<K: Kind>(scalars: &[u32]) -> Option<usize>
+    ensures { result ≡ position (nat_le K.Kind.meaning.order) scalars.now }
+{
+    let q = K::order();
+    scalars.iter().position(|s| q <= *s)
+}
 
 // Refuses the first scalar that is not below the order by 12.
 pub fn check_scalars<K: Kind>(scalars: &[u32]) -> Result<(), KindFault>
     ensures { result ≡ scalars_refusal K.Kind.meaning scalars.now }
 {
-    let q = K::order();
-    for i in 0..scalars.len() {
-        if scalars[i] >= q {
-            return Err(KindFault::NotAScalar(i));
-        }
+    match first_no_scalar::<K>(scalars) {
+        Some(i) => Err(KindFault::NotAScalar(i)),
+        None => Ok(()),
     }
-    Ok(())
 }
 
 // The product call: the powers of the entries' elements by the scalars, joined. Refused by 6, 11 and 12, in that order.
@@ -26,7 +30,7 @@ pub fn product<K: Kind>(entries: &[K::Entry], scalars: &[u32]) -> Result<K, Kind
     if scalars.len() != entries.len() {
         return Err(KindFault::Length(scalars.len()));
     }
-    check_entries::<K>(entries)?;
+    let elements = Checked::<K>::new(entries)?;
     check_scalars::<K>(scalars)?;
-    Ok(K::join_powers(entries, scalars))
+    Ok(elements.join_powers(scalars))
 }

@@ -29,7 +29,7 @@ impl Kind for Residue {
     }
 
     fn same(self, other: Residue) -> bool {
-        self.v == other.v
+        self == other
     }
 
     fn order() -> u32 {
@@ -41,13 +41,11 @@ impl Kind for Residue {
     }
 
     fn from_entry(e: u32) -> Result<Residue, KindFault> {
-        if e < 1 || e >= MODULUS {
-            return Err(KindFault::NotAnElement(0));
+        if 0 < e && e < MODULUS && pow_mod(e, ORDER, MODULUS) == 1 {
+            Ok(Residue { v: e })
+        } else {
+            Err(KindFault::NotAnElement(0))
         }
-        if pow_mod(e, ORDER, MODULUS) != 1 {
-            return Err(KindFault::NotAnElement(0));
-        }
-        Ok(Residue { v: e })
     }
 
     fn from_known(e: u32) -> Residue {

@@ -1,7 +1,7 @@
 // A kind whose elements are written as bytes.
 ghost use Rattle.std.specs.Prelude.{◌≡◌, ◌-◌, ◌++◌, replicate};
 ghost use Rattle.std.specs.Option.{ok_or};
-ghost use Rattle.kind.specs.Bytes.{bytes_of, Writing, WellWritten, clear_writing, residue_writing};
+ghost use Rattle.kind.specs.Bytes.{bytes_of, Writing, WellWritten, read_four, clear_writing, residue_writing};
 ghost use Rattle.kind.specs.declared.fault.KindFault.TheVariants.{NotAnElement};
 ghost use Rattle.kind.specs.Written.{clear_written, residue_written};
 
@@ -38,6 +38,16 @@ fn four_bytes(n: u32) -> [u8; 64]
     all
 }
 
+// The element of the number that just four bytes write.
+fn decode_number<K: Kind<Entry = u32>>(bytes: &[u8]) -> Result<K, KindFault>
+    ensures { result ≡ ok_or (read_four K.Kind.meaning.element bytes.now) (NotAnElement 0) }
+{
+    if bytes.len() != 4 {
+        return Err(KindFault::NotAnElement(0));
+    }
+    K::from_entry(number_in(bytes))
+}
+
 impl WrittenKind for Clear {
     ghost writing = { clear_writing };
 
@@ -52,10 +62,7 @@ impl WrittenKind for Clear {
     }
 
     fn decode(bytes: &[u8]) -> Result<Clear, KindFault> {
-        if bytes.len() != 4 {
-            return Err(KindFault::NotAnElement(0));
-        }
-        Clear::from_entry(number_in(bytes))
+        decode_number(bytes)
     }
 }
 
@@ -73,9 +80,6 @@ impl WrittenKind for Residue {
     }
 
     fn decode(bytes: &[u8]) -> Result<Residue, KindFault> {
-        if bytes.len() != 4 {
-            return Err(KindFault::NotAnElement(0));
-        }
-        Residue::from_entry(number_in(bytes))
+        decode_number(bytes)
     }
 }

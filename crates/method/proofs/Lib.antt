@@ -4,3 +4,4 @@ pub mod Bits
 pub mod Weighing
 pub mod Sized
 pub mod QuickChecks
+pub mod Weighted

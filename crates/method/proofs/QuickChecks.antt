@@ -38,11 +38,6 @@ quick_shaped n g elements numbers e =
       room_n = leb-true n numbers (held (leb n numbers) (Room numbers) l.0 l.1);
     }
 
-pub quick_all : {M E : Type 0} (s : Meaning M E) (laws : Lawful s) (gs : List E) (a b w : ℕ) → first_of (quick_content s gs a b w) ≡ Ok tt → AllElements s gs
-quick_all s laws gs a b w e =
-    let p = both_went (wrapped Kind (entries_refusal s gs) 0) _ tt e in
-    all_checked s laws gs (unwrapped Kind (entries_refusal s gs) 0 p.0 p.1)
-
 module _ {M E : Type 0} (s : Meaning M E) (laws : Lawful s) (cs ws : List ℕ) (good : HWeights s.order (reduced s cs) ws)
     (z : Pair M) (gs : List E) (k : M) (a b we wn : ℕ) where
   abbrev n : ℕ

@@ -1,16 +1,16 @@
 // What is refused before a method begins.
-ghost use Rattle.std.specs.Prelude.{◌≡◌};
-ghost use Rattle.kind.specs.Faults.{first_of};
+ghost use Rattle.std.specs.Prelude.{◌≡◌, ◌^◌, min, Ok, IfOk};
+ghost use Rattle.kind.specs.Faults.{and_then, first_of};
 ghost use Rattle.method.specs.Meaning.{is_size, size_refusal, length_refusal, room_refusal, scalar_refusal, length_refusals, content_refusals};
 
-use crate::fault::{InMethod, MethodFault};
-use kind::entries::check_entries;
+use crate::fault::MethodFault;
+use kind::checked::Checked;
 use kind::kind::Kind;
 
 pub fn is_size(n: usize) -> bool
     ensures { result ≡ is_size n }
 {
-    n == 1 || n == 2 || n == 4 || n == 8 || n == 16 || n == 32 || n == 64 || n == 128 || n == 256
+    matches!(n, 1 | 2 | 4 | 8 | 16 | 32 | 64 | 128 | 256)
 }
 
 pub(crate) fn check_size(n: usize) -> Result<(), MethodFault>
@@ -71,17 +71,27 @@ pub(crate) fn check_lengths(
     check_room(n, numbers)
 }
 
-// 11 and 12: the entries of the lists, and the last pair.
-pub(crate) fn check_content<K: Kind>(
-    g: &[K::Entry],
-    h: &[K::Entry],
+// 11 and 12: the lists, checked, after the last pair was.
+pub(crate) fn check_content<'a, K: Kind>(
+    g: &'a [K::Entry],
+    h: &'a [K::Entry],
     a: u32,
     b: u32,
-) -> Result<(), MethodFault>
-    ensures { result ≡ first_of (content_refusals K.Kind.meaning g.now h.now a b) }
+) -> Result<(Checked<'a, K>, Checked<'a, K>), MethodFault>
+    ensures refused { and_then result (λ _. Ok tt) ≡ first_of (content_refusals K.Kind.meaning g.now h.now a b) }
+    ensures g { IfOk result (λ p. p.0.entries.now ≡ g.now) }
+    ensures h { IfOk result (λ p. p.1.entries.now ≡ h.now) }
 {
-    check_entries::<K>(g).in_method(0)?;
-    check_entries::<K>(h).in_method(0)?;
+    let g = Checked::<K>::new(g)?;
+    let h = Checked::<K>::new(h)?;
     check_scalar::<K>(a)?;
-    check_scalar::<K>(b)
+    check_scalar::<K>(b)?;
+    Ok((g, h))
+}
+
+// How many entries so many rounds fold to one. More than eight rounds count as eight.
+pub fn list_length(rounds: usize) -> usize
+    ensures { result ≡ 2 ^ min rounds 8 }
+{
+    1 << rounds.min(8)
 }

@@ -1,6 +1,5 @@
 // The method's faults, and how it takes up the kind's.
-ghost use Rattle.std.specs.Prelude.{◌≡◌, ℕ};
-ghost use Rattle.kind.specs.Faults.{wrapped};
+ghost use Rattle.std.specs.Prelude.{◌≡◌};
 ghost use Rattle.method.specs.Faults.{method_refusal};
 ghost use Rattle.method.specs.declared.fault.MethodFault.TheVariants.{Kind};
 
@@ -28,62 +27,28 @@ impl MethodFault {
     pub fn refusal(self) -> Refusal
         ensures { result ≡ method_refusal self }
     {
-        let layer = Layer::Method;
-        match self {
-            MethodFault::TooManyRounds => Refusal {
-                number: 3,
-                layer,
-                place: 0,
-            },
-            MethodFault::Size(place) => Refusal {
-                number: 5,
-                layer,
-                place,
-            },
-            MethodFault::Length(place) => Refusal {
-                number: 6,
-                layer,
-                place,
-            },
-            MethodFault::Room(place) => Refusal {
-                number: 8,
-                layer,
-                place,
-            },
-            MethodFault::NotAScalar(place) => Refusal {
-                number: 12,
-                layer,
-                place,
-            },
-            MethodFault::NotAChallenge(place) => Refusal {
-                number: 13,
-                layer,
-                place,
-            },
-            MethodFault::Kind(fault, _) => fault.refusal(),
+        let (number, place) = match self {
+            MethodFault::TooManyRounds => (3, 0),
+            MethodFault::Size(place) => (5, place),
+            MethodFault::Length(place) => (6, place),
+            MethodFault::Room(place) => (8, place),
+            MethodFault::NotAScalar(place) => (12, place),
+            MethodFault::NotAChallenge(place) => (13, place),
+            MethodFault::Kind(fault, _) => return fault.refusal(),
+        };
+        Refusal {
+            number,
+            layer: Layer::Method,
+            place,
         }
     }
 }
 
-// A result of a lower layer, as the method's: its fault is kept whole, with the method's place.
-pub trait InMethod: Sized {
-    type Told;
+// The kind's fault is kept whole. A method's own place for it is 0.
+impl From<KindFault> for MethodFault {
+    ghost from_gives = { λ fault r. r ≡ Kind fault 0 };
 
-    ghost told: { Self → ℕ → Self.Told };
-
-    fn in_method(self, place: usize) -> Self::Told
-        ensures { result ≡ told self place };
-}
-
-impl<T> InMethod for Result<T, KindFault> {
-    type Told = Result<T, MethodFault>;
-
-    ghost told = { wrapped Kind };
-
-    fn in_method(self, place: usize) -> Result<T, MethodFault> {
-        match self {
-            Ok(x) => Ok(x),
-            Err(fault) => Err(MethodFault::Kind(fault, place)),
-        }
+    fn from(fault: KindFault) -> MethodFault {
+        MethodFault::Kind(fault, 0)
     }
 }

@@ -4,13 +4,11 @@
 pub mod admit;
 pub mod commitments;
 pub mod fault;
-pub mod folds;
 pub mod halving;
 pub mod last_pair;
 pub mod method;
 pub mod multiplying;
 pub mod quick;
-pub mod side;
 pub mod table;
 pub mod tables;
 pub mod theorems;

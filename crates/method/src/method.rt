@@ -7,8 +7,8 @@ ghost use Rattle.method.specs.Tables.{challenges};
 
 use crate::admit::{check_content, check_lengths};
 use crate::fault::MethodFault;
-use crate::last_pair::{clear_numbers, two_to};
 use crate::table::ChallengeTable;
+use kind::checked::Checked;
 use kind::entries::clear_entries;
 use kind::kind::Kind;
 use kind::pair::Pair;
@@ -20,39 +20,39 @@ pub trait Method {
         &self,
         cs: &[u32],
         z: Pair<K>,
-        g: &[K::Entry],
-        h: &[K::Entry],
+        g: &Checked<K>,
+        h: &Checked<K>,
         key: K,
         a: u32,
         b: u32,
         elements: &mut [K::Entry],
         numbers: &mut [u32],
     ) -> bool
-        requires { Admitted K.Kind.meaning cs.now g.now h.now (length elements.old) (length numbers.old) }
-        ensures { result ≡ verdict_of K.Kind.meaning cs.now z g.now h.now key a b };
+        requires { Admitted cs.now (length g.now.entries.now) (length h.now.entries.now) (length elements.old) (length numbers.old) }
+        ensures { result ≡ verdict_of K.Kind.meaning cs.now z g.now.entries.now h.now.entries.now key a b };
 
     // The same, with the work lists cleared.
     fn decide_and_clear<K: Kind>(
         &self,
         cs: &[u32],
         z: Pair<K>,
-        g: &[K::Entry],
-        h: &[K::Entry],
+        g: &Checked<K>,
+        h: &Checked<K>,
         key: K,
         a: u32,
         b: u32,
         elements: &mut [K::Entry],
         numbers: &mut [u32],
     ) -> bool
-        requires { Admitted K.Kind.meaning cs.now g.now h.now (length elements.old) (length numbers.old) }
-        ensures verdict { result ≡ verdict_of K.Kind.meaning cs.now z g.now h.now key a b }
+        requires { Admitted cs.now (length g.now.entries.now) (length h.now.entries.now) (length elements.old) (length numbers.old) }
+        ensures verdict { result ≡ verdict_of K.Kind.meaning cs.now z g.now.entries.now h.now.entries.now key a b }
         ensures elements { elements.new ≡ replicate (length elements.old) (unit_entry K.Kind.meaning) }
         ensures numbers { numbers.new ≡ replicate (length numbers.old) 0 }
     {
-        let r = self.decide(cs, z, g, h, key, a, b, elements, numbers);
+        let passes = self.decide(cs, z, g, h, key, a, b, elements, numbers);
         clear_entries::<K>(elements);
-        clear_numbers(numbers);
-        r
+        numbers.fill(0);
+        passes
     }
 
     // Whether the last pair a, b passes, for G and H folded by the table's challenges and the folded commitments z.
@@ -74,19 +74,19 @@ pub trait Method {
         ensures numbers { work_numbers.new ≡ cleared result (2 ^ length (challenges table.now)) 0 work_numbers.old }
     {
         let cs = table.challenges();
-        let n = two_to(cs.len());
+        let n = table.size();
         check_lengths(n, g.len(), h.len(), work_elements.len(), work_numbers.len())?;
-        check_content::<K>(g, h, a, b)?;
+        let (gs, hs) = check_content::<K>(g, h, a, b)?;
         Ok(self.decide_and_clear(
             cs,
             z,
-            g,
-            h,
+            &gs,
+            &hs,
             key,
             a,
             b,
-            &mut work_elements[0..n],
-            &mut work_numbers[0..n],
+            &mut work_elements[..n],
+            &mut work_numbers[..n],
         ))
     }
 }

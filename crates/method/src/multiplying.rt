@@ -4,6 +4,7 @@ ghost use Rattle.std.specs.Prelude.{◌≡◌};
 use crate::last_pair::passes;
 use crate::method::Method;
 use crate::weights::fill_weights;
+use kind::checked::Checked;
 use kind::kind::Kind;
 use kind::pair::Pair;
 
@@ -16,8 +17,8 @@ impl Method for MultiplyingOut {
         &self,
         cs: &[u32],
         z: Pair<K>,
-        g: &[K::Entry],
-        h: &[K::Entry],
+        g: &Checked<K>,
+        h: &Checked<K>,
         key: K,
         a: u32,
         b: u32,
@@ -25,9 +26,9 @@ impl Method for MultiplyingOut {
         numbers: &mut [u32],
     ) -> bool {
         fill_weights::<K>(cs, numbers);
-        let y = K::join_powers(h, numbers);
+        let y = h.join_powers(numbers);
         numbers.reverse();
-        let x = K::join_powers(g, numbers);
+        let x = g.join_powers(numbers);
         passes(z, key, x, y, a, b)
     }
 }

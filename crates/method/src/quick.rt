@@ -1,20 +1,20 @@
 // The quick check: both equations of a last pair in one, by a weight, over one list for G and H.
-ghost use Rattle.std.specs.Prelude.{◌≡◌, ℕ, ◌+◌, ◌*◌, ◌^◌, ◌≤◌, List, length, replicate};
+ghost use Rattle.std.specs.Prelude.{◌≡◌, ℕ, ◌+◌, ◌*◌, ◌^◌, ◌≤◌, List, length, replicate, Ok, IfOk};
 ghost use Rattle.std.specs.Simd.Lanes.{zip2};
 ghost use Rattle.protocol.specs.Group.{power as power_of, product as product_of};
 ghost use Rattle.protocol.specs.Weights.{HWeights, g_weights};
-ghost use Rattle.kind.specs.Faults.{first_of};
-ghost use Rattle.kind.specs.Kinds.{elements as elements_of, unit_entry, AllElements};
+ghost use Rattle.kind.specs.Faults.{and_then, first_of};
+ghost use Rattle.kind.specs.Kinds.{elements as elements_of, unit_entry};
 ghost use Rattle.method.specs.Meaning.{reduced, cleared};
 ghost use Rattle.method.specs.QuickCheck.{weight_refusal, quick_lengths, quick_content, quick_passes, quick_answer};
 ghost use Rattle.method.specs.Tables.{challenges};
 
 use crate::admit::{check_length, check_room, check_scalar, check_size};
-use crate::fault::{InMethod, MethodFault};
-use crate::last_pair::{clear_numbers, two_to};
+use crate::fault::MethodFault;
 use crate::table::ChallengeTable;
 use crate::weights::fill_weights;
-use kind::entries::{check_entries, clear_entries};
+use kind::checked::Checked;
+use kind::entries::clear_entries;
 use kind::kind::Kind;
 use kind::modular::mul_scalars;
 use kind::pair::Pair;
@@ -43,18 +43,21 @@ fn check_quick_lengths(
     check_room(n, numbers)
 }
 
-fn check_quick_content<K: Kind>(
-    g: &[K::Entry],
+// The list, checked, after the last pair and the weight were.
+fn check_quick_content<'a, K: Kind>(
+    g: &'a [K::Entry],
     a: u32,
     b: u32,
     weight: u32,
-) -> Result<(), MethodFault>
-    ensures { result ≡ first_of (quick_content K.Kind.meaning g.now a b weight) }
+) -> Result<Checked<'a, K>, MethodFault>
+    ensures refused { and_then result (λ _. Ok tt) ≡ first_of (quick_content K.Kind.meaning g.now a b weight) }
+    ensures list { IfOk result (λ c. c.entries.now ≡ g.now) }
 {
-    check_entries::<K>(g).in_method(0)?;
+    let g = Checked::<K>::new(g)?;
     check_scalar::<K>(a)?;
     check_scalar::<K>(b)?;
-    check_weight::<K>(weight)
+    check_weight::<K>(weight)?;
+    Ok(g)
 }
 
 // a x + e y, modulo the order.
@@ -65,16 +68,14 @@ fn sum_of_products<K: Kind>(a: u32, x: u32, e: u32, y: u32) -> u32
 }
 
 // The powers of the list's elements by a times the G weight and e times the H weight of each index, joined.
-fn join_weighted<K: Kind>(g: &[K::Entry], ws: &[u32], a: u32, e: u32) -> K
-    requires checked { AllElements K.Kind.meaning g.now }
-    requires long { length ws.now ≡ length g.now }
-    ensures { result ≡ product_of K.Kind.meaning.group (elements_of K.Kind.meaning g.now) (zip2 (λ x y. a * x + e * y) (g_weights ws.now) ws.now) }
+fn join_weighted<K: Kind>(g: &Checked<K>, ws: &[u32], a: u32, e: u32) -> K
+    requires { length ws.now ≡ length g.now.entries.now }
+    ensures { result ≡ product_of K.Kind.meaning.group (elements_of K.Kind.meaning g.now.entries.now) (zip2 (λ x y. a * x + e * y) (g_weights ws.now) ws.now) }
 {
-    let n = g.len();
     let mut total = K::unit();
-    for i in 0..n {
-        let x = K::element_at(g, i);
-        total = total.join(x.power(sum_of_products::<K>(a, ws[n - 1 - i], e, ws[i])));
+    for ((entry, g_weight), h_weight) in g.entries.iter().zip(ws.iter().rev()).zip(ws) {
+        let exponent = sum_of_products::<K>(a, *g_weight, e, *h_weight);
+        total = total.join(K::from_known(*entry).power(exponent));
     }
     total
 }
@@ -83,22 +84,21 @@ fn join_weighted<K: Kind>(g: &[K::Entry], ws: &[u32], a: u32, e: u32) -> K
 fn quick_decide<K: Kind>(
     cs: &[u32],
     z: Pair<K>,
-    g: &[K::Entry],
+    g: &Checked<K>,
     key: K,
     a: u32,
     b: u32,
     weight: u32,
     numbers: &mut [u32],
 ) -> bool
-    requires checked { AllElements K.Kind.meaning g.now }
-    requires long { length g.now ≡ 2 ^ length cs.now }
+    requires long { length g.now.entries.now ≡ 2 ^ length cs.now }
     requires room { length numbers.old ≡ 2 ^ length cs.now }
     requires few { length cs.now ≤ 8 }
-    ensures { (ws : List ℕ) → HWeights K.Kind.meaning.order (reduced K.Kind.meaning cs.now) ws → result ≡ quick_passes K.Kind.meaning ws z g.now key a b weight }
+    ensures { (ws : List ℕ) → HWeights K.Kind.meaning.order (reduced K.Kind.meaning cs.now) ws → result ≡ quick_passes K.Kind.meaning ws z g.now.entries.now key a b weight }
 {
     fill_weights::<K>(cs, numbers);
     let e = mul_scalars::<K>(weight, b);
-    let joined = join_weighted::<K>(g, numbers, a, e);
+    let joined = join_weighted(g, numbers, a, e);
     let wa = mul_scalars::<K>(weight, a);
     let wab = mul_scalars::<K>(wa, b);
     let left = joined.join(key.power(wab));
@@ -110,7 +110,7 @@ fn quick_decide<K: Kind>(
 fn quick_decide_and_clear<K: Kind>(
     cs: &[u32],
     z: Pair<K>,
-    g: &[K::Entry],
+    g: &Checked<K>,
     key: K,
     a: u32,
     b: u32,
@@ -118,18 +118,17 @@ fn quick_decide_and_clear<K: Kind>(
     elements: &mut [K::Entry],
     numbers: &mut [u32],
 ) -> bool
-    requires checked { AllElements K.Kind.meaning g.now }
-    requires long { length g.now ≡ 2 ^ length cs.now }
+    requires long { length g.now.entries.now ≡ 2 ^ length cs.now }
     requires room { length numbers.old ≡ 2 ^ length cs.now }
     requires few { length cs.now ≤ 8 }
-    ensures verdict { (ws : List ℕ) → HWeights K.Kind.meaning.order (reduced K.Kind.meaning cs.now) ws → result ≡ quick_passes K.Kind.meaning ws z g.now key a b weight }
+    ensures verdict { (ws : List ℕ) → HWeights K.Kind.meaning.order (reduced K.Kind.meaning cs.now) ws → result ≡ quick_passes K.Kind.meaning ws z g.now.entries.now key a b weight }
     ensures elements { elements.new ≡ replicate (length elements.old) (unit_entry K.Kind.meaning) }
     ensures numbers { numbers.new ≡ replicate (length numbers.old) 0 }
 {
-    let r = quick_decide::<K>(cs, z, g, key, a, b, weight, numbers);
+    let passes = quick_decide(cs, z, g, key, a, b, weight, numbers);
     clear_entries::<K>(elements);
-    clear_numbers(numbers);
-    r
+    numbers.fill(0);
+    passes
 }
 
 // The quick check. It passes exactly when product(G_i, a x Gweight_i + w x b x Hweight_i) joined with K^(w a b) is Z1 joined
@@ -150,18 +149,18 @@ pub fn quick_check<K: Kind>(
     ensures numbers { work_numbers.new ≡ cleared result (2 ^ length (challenges table.now)) 0 work_numbers.old }
 {
     let cs = table.challenges();
-    let n = two_to(cs.len());
+    let n = table.size();
     check_quick_lengths(n, g.len(), work_elements.len(), work_numbers.len())?;
-    check_quick_content::<K>(g, a, b, weight)?;
-    Ok(quick_decide_and_clear::<K>(
+    let gs = check_quick_content::<K>(g, a, b, weight)?;
+    Ok(quick_decide_and_clear(
         cs,
         z,
-        g,
+        &gs,
         key,
         a,
         b,
         weight,
-        &mut work_elements[0..n],
-        &mut work_numbers[0..n],
+        &mut work_elements[..n],
+        &mut work_numbers[..n],
     ))
 }

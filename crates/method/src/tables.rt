@@ -1,10 +1,11 @@
 // Making a challenge table, and reading it.
-ghost use Rattle.std.specs.Prelude.{◌≡◌, ◌-◌, ◌^◌, ◌≤◌, [], ◌∷◌, ◌++◌, length, replicate};
+ghost use Rattle.std.specs.Prelude.{◌≡◌, ◌-◌, ◌^◌, ◌≤◌, [], ◌∷◌, ◌++◌, length, replicate, position};
 ghost use Rattle.kind.specs.Faults.{first_bad};
 ghost use Rattle.method.specs.Entries.{outside};
 ghost use Rattle.method.specs.Tables.{challenges as challenges_of, listed, table_answer};
 ghost use Rattle.method.specs.declared.fault.MethodFault.TheVariants.{NotAChallenge};
 
+use crate::admit::list_length;
 use crate::fault::MethodFault;
 use crate::table::ChallengeTable;
 use kind::bytes::cut;
@@ -15,15 +16,19 @@ fn is_outside(c: u32) -> bool
     c == 0 || c > 2147483647
 }
 
+fn first_outside(entries: &[u32]) -> Option<usize>
+    ensures { result ≡ position outside entries.now }
+{
+    entries.iter().position(|c| is_outside(*c))
+}
+
 fn check_entries(entries: &[u32]) -> Result<(), MethodFault>
     ensures { result ≡ first_bad outside NotAChallenge 0 entries.now }
 {
-    for i in 0..entries.len() {
-        if is_outside(entries[i]) {
-            return Err(MethodFault::NotAChallenge(i));
-        }
+    match first_outside(entries) {
+        Some(i) => Err(MethodFault::NotAChallenge(i)),
+        None => Ok(()),
     }
-    Ok(())
 }
 
 // The entries, and zeros behind them.
@@ -32,7 +37,7 @@ fn padded(entries: &[u32]) -> [u32; 8]
     ensures { result ≡ entries.now ++ replicate (8 - length entries.now) 0 }
 {
     let mut all = [0; 8];
-    all[0..entries.len()].copy_from_slice(entries);
+    all[..entries.len()].copy_from_slice(entries);
     all
 }
 
@@ -77,6 +82,13 @@ impl ChallengeTable {
             entries,
             len: self.len + 1,
         })
+    }
+
+    // How many entries its rounds fold to one.
+    pub fn size(&self) -> usize
+        ensures { result ≡ 2 ^ length (challenges_of self.now) }
+    {
+        list_length(self.len)
     }
 
     pub fn challenges(&self) -> &[u32]

@@ -4,7 +4,6 @@ ghost use Rattle.protocol.specs.Weights.{HWeights};
 ghost use Rattle.method.specs.Meaning.{reduced};
 ghost use Rattle.method.specs.HighestBit.{HighestBit};
 
-use crate::last_pair::two_to;
 use kind::kind::Kind;
 use kind::modular::mul_scalars;
 
@@ -35,9 +34,10 @@ pub(crate) fn fill_weights<K: Kind>(cs: &[u32], ws: &mut [u32])
 {
     let q = K::order();
     ws[0] = 1;
+    // By index: each weight is made from an earlier one of the same list.
     for i in 1..ws.len() {
         let t = top_bit(i);
-        let rest = i - two_to(t);
+        let rest = i - (1 << t);
         ws[i] = mul_scalars::<K>(ws[rest], cs[cs.len() - 1 - t] % q);
     }
 }

@@ -24,9 +24,9 @@ returns g c = λ ws good.
     let a : ℕ = c.args.a in
     let b : ℕ = c.args.b in
     let w : ℕ = c.args.weight in
-    let gs = elements s c.args.g.now in
+    let gs = elements s c.args.g.now.entries.now in
     let same : made ≡ ws = weights_are q cs made c.fill_weights.ensures ∙ sym (weights_are q cs ws good) in
-    let n = length-elements s c.args.g.now in
+    let n = length-elements s c.args.g.now.entries.now in
     let size : length made ≡ length gs = (let room = c.requires.room in let long = c.requires.long in omega arith) in
     let joined : c.join_weighted-joined.result ≡ product o gs (quick_scalars ws a b w) =
     c.join_weighted-joined.ensures

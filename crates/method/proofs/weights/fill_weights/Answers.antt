@@ -4,8 +4,8 @@ use Rattle.method.specs.Meaning.{reduced}
 use Rattle.method.proofs.Weighing.{bit_below, built_more, built_all}
 use Rattle.method.proofs.weights.fill_weights.Goals as goal
 
-pub two_to-requires : goal.two_to-requires
-two_to-requires g c =
+pub overflow_shl-rest : goal.overflow_shl-rest
+overflow_shl-rest g c =
     let m : 2 ^ length c.args.cs.now ≤ 2 ^ 8 = pow_mono c.requires.few in
     let room = c.requires.room in
     let kept = length-set c.args.ws.now 0 1 in
@@ -32,9 +32,12 @@ loop-i-preserved g c =
     let long : length rs ≡ length cs = length-map cs (λ x. x % s.order) in
     let h = bit_below t (length cs) i (c.top_bit-t.ensures.low (omega arith)) (omega arith) in
     let at : ℕ = length cs - 1 - t in
+    let m : 2 ^ length cs ≤ 2 ^ 8 = pow_mono c.requires.few in
+    let low = c.top_bit-t.ensures.low (omega arith) in
+    let bit : 1 * 2 ^ t % 18446744073709551616 ≡ 2 ^ t = omega arith in
     let is = c.mul_scalars.ensures
-    ∙ ap (λ (q : ℕ). get_or ws (i - c.two_to.result) 0 * (get_or cs at 0 % q) % s.order) c.order-q.ensures
-    ∙ ap (λ (n : ℕ). get_or ws (i - n) 0 * (get_or cs at 0 % s.order) % s.order) c.two_to.ensures
+    ∙ ap (λ (q : ℕ). get_or ws (i - 1 * 2 ^ t % 18446744073709551616) 0 * (get_or cs at 0 % q) % s.order) c.order-q.ensures
+    ∙ ap (λ (n : ℕ). get_or ws (i - n) 0 * (get_or cs at 0 % s.order) % s.order) bit
     ∙ ap (λ (x : ℕ). get_or ws (i - 2 ^ t) 0 * x % s.order) (sym (get_or-map (λ x. x % s.order) cs at 0 0 (omega arith)) ∙ ap (λ (n : ℕ). get_or rs (n - 1 - t) 0) (sym long)) in
     built_more s.order rs ws i t c.mul_scalars.result (omega arith) (omega arith) c.top_bit-t.ensures is c.loop-i.invariant
 

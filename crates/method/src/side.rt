@@ -1,6 +1,0 @@
-// Which list is folded: G and H go by different formulas.
-#[derive(Clone, Copy)]
-pub enum Side {
-    OfG,
-    OfH,
-}
