@@ -7,13 +7,13 @@ use Rattle.protocol.specs.Weights.{HWeights}
 use Rattle.protocol.proofs.Quick.{decides}
 use Rattle.kind.specs.Both.{both_true}
 use Rattle.kind.specs.Faults.{and_then, first_of, wrapped}
-use Rattle.kind.specs.Kinds.{Meaning, Lawful, elements, AllElements}
+use Rattle.kind.specs.Kinds.{Meaning, Lawful, elements}
 use Rattle.kind.specs.Products.{entries_refusal}
 use Rattle.kind.specs.declared.pair.Pair.{Pair}
-use Rattle.kind.proofs.Listed.{length-elements, all_checked}
-use Rattle.kind.proofs.Steps.{both_went, held, unwrapped, AllPass, none, more, all_pass}
+use Rattle.kind.proofs.Listed.{length-elements}
+use Rattle.kind.proofs.Steps.{both_went, held, AllPass, none, more, all_pass}
 use Rattle.method.specs.Meaning.{size_refusal, length_refusal, room_refusal, scalar_refusal, length_refusals, content_refusals, reduced, method_refused, verdict_of}
-use Rattle.method.specs.QuickCheck.{quick_lengths, quick_content, weight_refusal, quick_refused, quick_passes, QuickDecides}
+use Rattle.method.specs.QuickCheck.{quick_lengths, weight_refusal, quick_refused, quick_passes, QuickDecides}
 use Rattle.method.specs.declared.fault.MethodFault.TheVariants.{Length, Room, Kind, NotAChallenge}
 
 no_fault : {T F : Type 0} (r : Result Unit F) (v u : T) → and_then r (λ _. Ok v) ≡ Ok u → (r ≡ Ok tt) × (v ≡ u)

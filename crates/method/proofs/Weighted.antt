@@ -1,10 +1,10 @@
 -- One turn of the product by both weights. Assumes nothing.
-use Rattle.std.proofs.Common.{◌≡◌, ℕ, List, [], ◌∷◌, length, reverse, sym, ap, ◌∙◌, ap₂, arith}
+use Rattle.std.proofs.Common.{◌≡◌, ℕ, List, [], ◌∷◌, reverse, sym, ap, ◌∙◌, ap₂}
 use Rattle.std.specs.List.{push}
 use Rattle.std.proofs.lemmas.List.{reverse-append}
 use lib.Lanes.{zip2}
 use Rattle.protocol.specs.Group.{power, product}
-use Rattle.kind.specs.Kinds.{Meaning, Lawful, element_in, elements}
+use Rattle.kind.specs.Kinds.{Meaning, Lawful, elements}
 use Rattle.kind.proofs.Listed.{known}
 
 module _ {M E : Type 0} (s : Meaning M E) (laws : Lawful s) (f : ℕ → ℕ → ℕ) where

@@ -4,7 +4,6 @@ use Rattle.kind.specs.Bytes.{Writing}
 use Rattle.kind.specs.Faults.{and_then, wrapped}
 use Rattle.kind.specs.Kinds.{Meaning}
 use Rattle.method.specs.Meaning.{method_answer}
-use Rattle.method.specs.Tables.{table_answer}
 use Rattle.record.specs.Contents.{contents_in}
 use Rattle.record.specs.Folded.{Reckoned, reckoned}
 use Rattle.record.specs.Parts.{Piece, pieces_in, left, rounds_in}
@@ -26,10 +25,6 @@ module _ {M E : Type 0} (s : Meaning M E) where
   abbrev pub reckoned_answer : Reckoned M → List E → List E → M → ℕ → ℕ → Result Bool RecordFault
   reckoned_answer r gs hs k we wn =
       wrapped Method (method_answer s r.challenges r.z gs hs k r.last_pair.0 r.last_pair.1 we wn) 0
-
-  -- the same, by way of a challenge table
-  abbrev pub judged_answer : Reckoned M → List E → List E → M → ℕ → ℕ → Result Bool RecordFault
-  judged_answer r gs hs k we wn = and_then (wrapped Method (table_answer r.challenges) 0) (λ _. reckoned_answer r gs hs k we wn)
 
 module _ {M E : Type 0} (s : Meaning M E) (w : Writing M) where
   -- the record's fault, else the method's answer

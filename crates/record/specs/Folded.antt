@@ -1,10 +1,11 @@
 -- What a record comes to: its commitments folded by its rounds, and its challenges. Assumes nothing.
-use Rattle.std.specs.Prelude.{ℕ, List, [], ◌∷◌, map, take, Ok, Err, Result}
+use Rattle.std.specs.Prelude.{ℕ, List, [], ◌∷◌, map, Ok, Err, Result}
 use Rattle.kind.specs.Bytes.{Writing}
 use Rattle.kind.specs.Faults.{and_then}
 use Rattle.kind.specs.Kinds.{Meaning}
 use Rattle.kind.specs.declared.pair.Pair.{Pair}
 use Rattle.method.specs.Commitments.{fold_commitments}
+use Rattle.method.specs.Tables.{challenges}
 use Rattle.record.specs.Contents.{Contents, contents_in}
 use Rattle.record.specs.declared.fault.RecordFault.{RecordFault}
 use Rattle.record.specs.declared.round.Round.{Round}
@@ -37,7 +38,7 @@ reckoned s c = record {
 
 -- the same of what the code notes down
 abbrev pub seen : {M : Type 0} → Noted M → Reckoned M
-seen n = record { z = n.z; challenges = take n.count n.challenges; last_pair = (n.a, n.b) }
+seen n = record { z = n.z; challenges = challenges n.table; last_pair = (n.a, n.b) }
 
 abbrev pub seen_in : {M F : Type 0} → Result (Noted M) F → Result (Reckoned M) F
 seen_in (Ok n) = Ok (seen n)

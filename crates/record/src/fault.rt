@@ -1,8 +1,7 @@
 // The record's faults, and how it takes up those of the kind and of the method.
-ghost use Rattle.std.specs.Prelude.{◌≡◌, ℕ};
-ghost use Rattle.kind.specs.Faults.{wrapped};
+ghost use Rattle.std.specs.Prelude.{◌≡◌};
 ghost use Rattle.record.specs.Faults.{record_refusal, own_place};
-ghost use Rattle.record.specs.declared.fault.RecordFault.TheVariants.{Kind, Method};
+ghost use Rattle.record.specs.declared.fault.RecordFault.TheVariants.{Method};
 
 use kind::fault::{KindFault, Layer, Refusal};
 use method::fault::MethodFault;
@@ -28,30 +27,18 @@ impl RecordFault {
     pub fn refusal(self) -> Refusal
         ensures { result ≡ record_refusal self }
     {
-        let layer = Layer::Record;
-        match self {
-            RecordFault::TooManyRounds => Refusal {
-                number: 3,
-                layer,
-                place: 0,
-            },
-            RecordFault::Length(place) => Refusal {
-                number: 10,
-                layer,
-                place,
-            },
-            RecordFault::NotAScalar(place) => Refusal {
-                number: 12,
-                layer,
-                place,
-            },
-            RecordFault::NotAChallenge(place) => Refusal {
-                number: 13,
-                layer,
-                place,
-            },
-            RecordFault::Kind(fault, _) => fault.refusal(),
-            RecordFault::Method(fault, _) => fault.refusal(),
+        let (number, place) = match self {
+            RecordFault::TooManyRounds => (3, 0),
+            RecordFault::Length(place) => (10, place),
+            RecordFault::NotAScalar(place) => (12, place),
+            RecordFault::NotAChallenge(place) => (13, place),
+            RecordFault::Kind(fault, _) => return fault.refusal(),
+            RecordFault::Method(fault, _) => return fault.refusal(),
+        };
+        Refusal {
+            number,
+            layer: Layer::Record,
+            place,
         }
     }
 
@@ -61,47 +48,20 @@ impl RecordFault {
     {
         match self {
             RecordFault::TooManyRounds => 0,
-            RecordFault::Length(place) => place,
-            RecordFault::NotAScalar(place) => place,
-            RecordFault::NotAChallenge(place) => place,
-            RecordFault::Kind(_, place) => place,
-            RecordFault::Method(_, place) => place,
+            RecordFault::Length(place)
+            | RecordFault::NotAScalar(place)
+            | RecordFault::NotAChallenge(place)
+            | RecordFault::Kind(_, place)
+            | RecordFault::Method(_, place) => place,
         }
     }
 }
 
-// A result of a lower layer, as the record's: its fault is kept whole, with the record's place.
-pub trait InRecord: Sized {
-    type Told;
+// The method's fault is kept whole. The record's own place for it is 0.
+impl From<MethodFault> for RecordFault {
+    ghost from_gives = { λ fault r. r ≡ Method fault 0 };
 
-    ghost told: { Self → ℕ → Self.Told };
-
-    fn in_record(self, place: usize) -> Self::Told
-        ensures { result ≡ told self place };
-}
-
-impl<T> InRecord for Result<T, KindFault> {
-    type Told = Result<T, RecordFault>;
-
-    ghost told = { wrapped Kind };
-
-    fn in_record(self, place: usize) -> Result<T, RecordFault> {
-        match self {
-            Ok(x) => Ok(x),
-            Err(fault) => Err(RecordFault::Kind(fault, place)),
-        }
-    }
-}
-
-impl<T> InRecord for Result<T, MethodFault> {
-    type Told = Result<T, RecordFault>;
-
-    ghost told = { wrapped Method };
-
-    fn in_record(self, place: usize) -> Result<T, RecordFault> {
-        match self {
-            Ok(x) => Ok(x),
-            Err(fault) => Err(RecordFault::Method(fault, place)),
-        }
+    fn from(fault: MethodFault) -> RecordFault {
+        RecordFault::Method(fault, 0)
     }
 }

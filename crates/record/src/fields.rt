@@ -1,8 +1,9 @@
-// The fields of a record, read at a place.
+// The fields of a record, read at a place. A place is the number of the first byte, and goes with the bytes from there on; the two
+// are no struct, since the definitions say what stands in bytes and tell of the place in faults alone.
 ghost use Rattle.std.specs.Prelude.{◌≡◌, ◌≤◌};
 ghost use Rattle.record.specs.Fields.{scalar_in, challenge_in, last_in, element_in, pair_in, round_in};
 
-use crate::fault::{InRecord, RecordFault};
+use crate::fault::RecordFault;
 use crate::round::Round;
 use kind::bytes::{cut, number_in};
 use kind::kind::Kind;
@@ -35,7 +36,7 @@ fn read_element<K: WrittenKind>(bytes: &[u8], place: usize) -> Result<K, RecordF
     ensures { result ≡ element_in K.WrittenKind.writing K.Kind.meaning.order place bytes.now }
 {
     let (element, _) = cut(bytes, K::width());
-    K::decode(element).in_record(place)
+    K::decode(element).map_err(|fault| RecordFault::Kind(fault, place))
 }
 
 // Two elements, one behind the other.

@@ -13,7 +13,7 @@ impl<'a> Reader<'a> {
     pub fn open<K: WrittenKind>(bytes: &'a [u8]) -> Result<Reader<'a>, RecordFault>
         ensures { opened result ≡ open_answer K.WrittenKind.writing K.Kind.meaning.order bytes.now }
     {
-        let _ = read_whole::<K>(bytes)?;
-        Ok(Reader::at_width(K::width(), bytes))
+        read_whole::<K>(bytes)?;
+        Ok(Reader::parts_of::<K>(bytes))
     }
 }

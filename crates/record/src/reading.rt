@@ -1,16 +1,18 @@
 // The reader that hands out the parts of a record.
-ghost use Rattle.std.specs.Prelude.{◌≡◌, ◌≤◌, [], ◌∷◌, MatchOption};
+ghost use Rattle.std.specs.Prelude.{◌≡◌, [], ◌∷◌, MatchOption};
 ghost use Rattle.record.specs.Parts.{left, piece_of, pieces_in};
 
 use crate::part::{Part, Reader, Stage};
 use kind::bytes::{byte_at, cut};
+use kind::kind::Kind;
+use kind::written::WrittenKind;
 
 impl<'a> Reader<'a> {
-    // The parts behind the first byte, at elements of a width.
-    pub(crate) fn at_width(width: usize, bytes: &'a [u8]) -> Reader<'a>
-        requires { width ≤ 64 }
-        ensures { left result ≡ pieces_in width bytes.now }
+    // The parts behind the first byte, with elements as the kind writes them.
+    pub(crate) fn parts_of<K: WrittenKind>(bytes: &'a [u8]) -> Reader<'a>
+        ensures { left result ≡ pieces_in K.WrittenKind.writing.width bytes.now }
     {
+        let width = K::width();
         let (_, rest) = cut(bytes, 1);
         Reader {
             rest,

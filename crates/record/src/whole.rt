@@ -1,6 +1,7 @@
 // Reading a record whole: part by part, the commitments folded on the way.
 ghost use Rattle.std.specs.Prelude.{◌≡◌, ◌+◌, ◌<◌, ◌≤◌, length, IfOk, Ok};
 ghost use Rattle.kind.specs.Faults.{and_then};
+ghost use Rattle.method.specs.Tables.{challenges};
 ghost use Rattle.record.specs.Contents.{shape_in};
 ghost use Rattle.record.specs.Fields.{pair_in, round_in, last_in};
 ghost use Rattle.record.specs.Folded.{seen, seen_in, reckoned_in};
@@ -16,13 +17,14 @@ use kind::kind::Kind;
 use kind::pair::Pair;
 use kind::written::WrittenKind;
 use method::commitments::fold_commitments;
+use method::table::ChallengeTable;
 
 // 10 if empty, 3 if there are more than eight rounds, 10 if the length does not fit them.
-fn check_shape(width: usize, bytes: &[u8]) -> Result<u8, RecordFault>
-    requires { width ≤ 64 }
-    ensures { result ≡ shape_in width bytes.now }
+fn check_shape<K: WrittenKind>(bytes: &[u8]) -> Result<u8, RecordFault>
+    ensures { result ≡ shape_in K.WrittenKind.writing.width bytes.now }
 {
-    if bytes.len() == 0 {
+    let width = K::width();
+    if bytes.is_empty() {
         return Err(RecordFault::Length(0));
     }
     let k = byte_at(bytes, 0);
@@ -42,16 +44,9 @@ fn note_claim<K: WrittenKind>(
 ) -> Result<Noted<K>, RecordFault>
     requires { place ≤ 60000 }
     ensures noted { seen_in result ≡ and_then (pair_in K.WrittenKind.writing K.Kind.meaning.order place bytes.now) (λ z. Ok (with_claim z (seen noted))) }
-    ensures counted { IfOk result (λ n. n.count ≡ noted.count) }
 {
     let z = read_pair::<K>(bytes, place)?;
-    Ok(Noted {
-        z,
-        challenges: noted.challenges,
-        count: noted.count,
-        a: noted.a,
-        b: noted.b,
-    })
+    Ok(Noted { z, ..noted })
 }
 
 fn note_round<K: WrittenKind>(
@@ -60,20 +55,13 @@ fn note_round<K: WrittenKind>(
     place: usize,
 ) -> Result<Noted<K>, RecordFault>
     requires place { place ≤ 60000 }
-    requires room { noted.count < 8 }
+    requires room { length (challenges noted.table) < 8 }
     ensures noted { seen_in result ≡ and_then (round_in K.WrittenKind.writing K.Kind.meaning.order place bytes.now) (λ x. Ok (with_round K.Kind.meaning x (seen noted))) }
-    ensures counted { IfOk result (λ n. n.count ≡ noted.count + 1) }
 {
     let round = read_round::<K>(bytes, place)?;
-    let mut challenges = noted.challenges;
-    challenges[noted.count] = round.challenge;
-    Ok(Noted {
-        z: fold_commitments(round.lower, noted.z, round.upper, round.challenge),
-        challenges,
-        count: noted.count + 1,
-        a: noted.a,
-        b: noted.b,
-    })
+    let table = noted.table.with(round.challenge)?;
+    let z = fold_commitments(round.lower, noted.z, round.upper, round.challenge);
+    Ok(Noted { z, table, ..noted })
 }
 
 fn note_last<K: WrittenKind>(
@@ -83,16 +71,9 @@ fn note_last<K: WrittenKind>(
 ) -> Result<Noted<K>, RecordFault>
     requires { place ≤ 60000 }
     ensures noted { seen_in result ≡ and_then (last_in K.Kind.meaning.order place bytes.now) (λ p. Ok (with_last p (seen noted))) }
-    ensures counted { IfOk result (λ n. n.count ≡ noted.count) }
 {
     let (a, b) = read_last::<K>(bytes, place)?;
-    Ok(Noted {
-        z: noted.z,
-        challenges: noted.challenges,
-        count: noted.count,
-        a,
-        b,
-    })
+    Ok(Noted { a, b, ..noted })
 }
 
 // One part more: the claim is noted, a round folds the commitments, the last pair is noted.
@@ -102,9 +83,9 @@ fn note_part<K: WrittenKind>(
     place: usize,
 ) -> Result<Noted<K>, RecordFault>
     requires place { place ≤ 60000 }
-    requires room { noted.count + round_only (piece_of part) ≤ 8 }
+    requires room { length (challenges noted.table) + round_only (piece_of part) ≤ 8 }
     ensures noted { seen_in result ≡ taken_in K.Kind.meaning K.WrittenKind.writing place (seen noted) (piece_of part.entry) }
-    ensures counted { IfOk result (λ n. n.count ≡ noted.count + round_only (piece_of part.entry)) }
+    ensures counted { IfOk result (λ n. length (challenges n.table) ≡ length (challenges noted.table) + round_only (piece_of part.entry)) }
 {
     match part {
         Part::Claim(bytes) => note_claim::<K>(noted, bytes, place),
@@ -113,10 +94,10 @@ fn note_part<K: WrittenKind>(
     }
 }
 
-fn part_size(width: usize, part: Part) -> usize
-    requires { width ≤ 64 }
-    ensures { result ≡ size_of width (piece_of part.entry) }
+fn part_size<K: WrittenKind>(part: Part) -> usize
+    ensures { result ≡ size_of K.WrittenKind.writing.width (piece_of part.entry) }
 {
+    let width = K::width();
     match part {
         Part::Claim(_) => 2 * width,
         Part::Round(_) => 4 * width + 4,
@@ -129,15 +110,10 @@ fn gather<K: WrittenKind>(bytes: &[u8]) -> Result<Noted<K>, RecordFault>
     requires { rounds_in bytes.now ≤ 8 }
     ensures { seen_in result ≡ gathered K.Kind.meaning K.WrittenKind.writing 1 (nothing K.Kind.meaning) (pieces_in K.WrittenKind.writing.width bytes.now) }
 {
-    let width = K::width();
-    let mut reader = Reader::at_width(width, bytes);
+    let mut reader = Reader::parts_of::<K>(bytes);
     let mut noted = Noted {
-        z: Pair {
-            a: K::unit(),
-            b: K::unit(),
-        },
-        challenges: [0; 8],
-        count: 0,
+        z: Pair::<K>::unit(),
+        table: ChallengeTable::empty(),
         a: 0,
         b: 0,
     };
@@ -147,7 +123,7 @@ fn gather<K: WrittenKind>(bytes: &[u8]) -> Result<Noted<K>, RecordFault>
             return Ok(noted);
         };
         noted = note_part::<K>(noted, part, place)?;
-        place += part_size(width, part);
+        place += part_size::<K>(part);
     }
 }
 
@@ -155,6 +131,6 @@ fn gather<K: WrittenKind>(bytes: &[u8]) -> Result<Noted<K>, RecordFault>
 pub(crate) fn read_whole<K: WrittenKind>(bytes: &[u8]) -> Result<Noted<K>, RecordFault>
     ensures { seen_in result ≡ reckoned_in K.Kind.meaning K.WrittenKind.writing bytes.now }
 {
-    check_shape(K::width(), bytes)?;
+    check_shape::<K>(bytes)?;
     gather::<K>(bytes)
 }

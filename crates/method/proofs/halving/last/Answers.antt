@@ -1,4 +1,4 @@
-use Rattle.std.proofs.Common.{◌≡◌, ℕ, suc, ◌+◌, ◌-◌, ◌/◌, ◌%◌, ◌^◌, ◌<◌, ◌∷◌, List, length, get_or, take, sym, ap, ◌∙◌, subst, arith, take_all}
+use Rattle.std.proofs.Common.{◌≡◌, ℕ, suc, ◌+◌, ◌-◌, ◌/◌, ◌%◌, ◌^◌, List, length, get_or, take, sym, ap, ◌∙◌, subst, arith, take_all}
 use native.Mathlib.Nat.{two-pow-succ}
 use Rattle.kind.specs.Kinds.{AllElements, elements}
 use Rattle.kind.specs.Sides.{fold_of}

@@ -1,5 +1,4 @@
-use Rattle.std.proofs.Common.{◌≡◌, ℕ, ◌+◌, ◌*◌, ◌∙◌, length, inl, inr, sym, ap, arith, rules, length-append}
-use lib.Lanes.{zip2}
+use Rattle.std.proofs.Common.{◌≡◌, ◌+◌, ◌*◌, ◌∙◌, length, inl, inr, sym, ap, arith, rules, length-append}
 use lib.ListN.{length-reverse}
 use Rattle.kind.specs.Kinds.{elements}
 use Rattle.kind.proofs.Joins.{join_end}

@@ -108,7 +108,7 @@ returns g c =
     record {
       answer = λ ws good.
           ap Ok (c.quick_decide_and_clear.ensures.verdict ws (subst (λ (l : List ℕ). HWeights s.order (reduced s l) ws) (sym c.challenges-cs.ensures.value) good)
-              ∙ ap (λ l. quick_passes s ws c.args.z l c.args.key c.args.a c.args.b c.args.weight) c.in_ok-gs.ensures.list)
+          ∙ ap (λ l. quick_passes s ws c.args.z l c.args.key c.args.a c.args.b c.args.weight) c.in_ok-gs.ensures.list)
           ∙ sym (by_verdict s cs ws c.args.z gs c.args.key c.args.a c.args.b c.args.weight (length we) (length wn) d e);
       elements = cleared_part we c.quick_decide_and_clear.new.elements m n (unit_entry s) c.size-n.ensures h.room_e c.quick_decide_and_clear.ensures.elements;
       numbers = cleared_part wn c.quick_decide_and_clear.new.numbers m n 0 c.size-n.ensures h.room_n c.quick_decide_and_clear.ensures.numbers;

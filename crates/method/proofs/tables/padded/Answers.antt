@@ -1,4 +1,4 @@
-use Rattle.std.proofs.Common.{◌≡◌, ℕ, ◌-◌, ◌++◌, length, replicate, ap, ◌∙◌, ap₂, arith}
+use Rattle.std.proofs.Common.{ℕ, ◌++◌, length, ap₂}
 use Rattle.std.proofs.lemmas.List.{drop-replicate}
 use Rattle.method.proofs.tables.padded.Goals as goal
 

@@ -1,19 +1,13 @@
-use Rattle.std.proofs.Common.{◌<◌, length, Ok, sym, refl, ap, ◌∙◌, arith}
-use Rattle.std.proofs.lemmas.List.{take_more_set}
-use Rattle.kind.specs.Faults.{and_then}
-use Rattle.record.specs.Folded.{seen}
-use Rattle.record.specs.Noting.{with_round}
+use Rattle.std.proofs.Common.{sym, ap, ◌∙◌}
+use Rattle.method.specs.Tables.{listed}
+use Rattle.method.proofs.Sized.{table_takes}
+use Rattle.record.proofs.Passing.{round_inside}
 use Rattle.record.proofs.whole.note_round.Goals as goal
 
-pub returns : goal.returns
-returns g c =
-    let s = g.K.Kind.meaning in
-    let old = c.args.noted in
+-- a round's challenge is one for a table, which has room
+pub returns-in_err-table : goal.returns-in_err-table
+returns-in_err-table g c =
     let x = c.in_ok-round.round in
-    let h : old.count < length old.challenges = omega arith in
-    let cs = take_more_set old.challenges old.count x.challenge h in
-    record {
-      counted = refl;
-      noted = (λ i. Ok (record { z = c.fold_commitments.ensures i; challenges = cs i; last_pair = (old.a, old.b) }))
-          ∙ sym (ap (λ r. and_then r (λ y. Ok (with_round s y (seen old)))) (sym c.read_round.ensures ∙ c.in_ok-round.was));
-    }
+    let fine = round_inside g.K.WrittenKind.writing g.K.Kind.meaning.order g.K.Kind.laws.order_high c.args.place c.args.bytes.now x (sym c.read_round.ensures ∙ c.in_ok-round.was) in
+    let e = sym (ap listed c.in_err-table.was) ∙ c.with.ensures ∙ table_takes c.args.noted.table x.challenge c.requires.room fine in
+    cc

@@ -12,8 +12,7 @@ returns g c =
     let s = g.K.Kind.meaning in
     let w = g.K.WrittenKind.writing in
     let bs : List ℕ = c.args.bytes.now in
-    let shape : shape_in w.width bs ≡ Ok _ =
-    ap (λ (n : ℕ). shape_in n bs) (sym c.width.ensures) ∙ sym c.check_shape.ensures ∙ c.in_ok-check_shape.was in
+    let shape : shape_in w.width bs ≡ Ok _ = sym c.check_shape.ensures ∙ c.in_ok-check_shape.was in
     let is = (passed_on _ (rounds_in bs) _ shape).1 in
     c.gather.ensures ∙ whole_gathered s w bs
     ∙ sym (ap (λ r. and_then (and_then r (λ k. body_in w s.order k bs)) (λ x. Ok (reckoned s x))) is)

@@ -10,7 +10,7 @@ returns-then-pow_mod-eq1 c = sym (ap (λ o. ok_or o (NotAnElement 0)) (residue_o
 
 pub returns-else-e-gt0 : goal.returns-else-e-gt0
 returns-else-e-gt0 c = sym (ap (λ o. ok_or o (NotAnElement 0)) (residue_of_none c.args.e (λ h. elim c.else-e-gt0.branch [
-      | else-e-gt0-via-then-e-gt0+then-e-lt-MODULUS+else-pow_mod-eq1 w ↦ w.if-pow_mod-eq1.false (w.pow_mod.ensures ∙ h.2)
-      | else-e-gt0-via-then-e-gt0+else-e-lt-MODULUS w ↦ absurd (omega (arith, w.if-e-lt-MODULUS.false, h.1))
-      | else-e-gt0-via-else-e-gt0 w ↦ absurd (omega (arith, w.if-e-gt0.false, h.0))
-    ])))
+  | else-e-gt0-via-then-e-gt0+then-e-lt-MODULUS+else-pow_mod-eq1 w ↦ w.if-pow_mod-eq1.false (w.pow_mod.ensures ∙ h.2)
+  | else-e-gt0-via-then-e-gt0+else-e-lt-MODULUS w ↦ absurd (omega (arith, w.if-e-lt-MODULUS.false, h.1))
+  | else-e-gt0-via-else-e-gt0 w ↦ absurd (omega (arith, w.if-e-gt0.false, h.0))
+])))
