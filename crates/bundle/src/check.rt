@@ -4,7 +4,7 @@ ghost use Rattle.kind.specs.Kinds.{unit_entry};
 ghost use Rattle.bundle.specs.Bodies.{left, handed_out};
 ghost use Rattle.bundle.specs.Checks.{next_answer, behind, one_more, cleared_next};
 
-use crate::fault::{BundleFault, InBundle};
+use crate::fault::BundleFault;
 use crate::records::Records;
 use kind::kind::Kind;
 use kind::written::WrittenKind;
@@ -35,6 +35,6 @@ impl<'a> Records<'a> {
             return None;
         };
         let answer = check_front::<K, M>(method, body, g, h, key, work_elements, work_numbers);
-        Some(answer.in_bundle(index))
+        Some(answer.map_err(|fault| BundleFault::Record(fault, index)))
     }
 }
