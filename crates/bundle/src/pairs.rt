@@ -4,6 +4,7 @@ ghost use Rattle.bundle.specs.Layout.{count_in, pair_in, all_pairs, to_come, who
 
 use crate::fault::BundleFault;
 use kind::bytes::{byte_at, cut, number_in};
+use kind::fault::require;
 
 // Where a record lies in the file.
 #[derive(Clone, Copy)]
@@ -72,10 +73,10 @@ impl<'a> Pairs<'a> {
 fn check_whole(file: &[u8]) -> Result<(), BundleFault>
     ensures { result ≡ whole_refusal file.now }
 {
-    if file.len() < 2 + 8 * count(file) as usize {
-        return Err(BundleFault::Directory(0));
-    }
-    Ok(())
+    require(
+        2 + 8 * count(file) as usize <= file.len(),
+        BundleFault::Directory(0),
+    )
 }
 
 // Refuses the first pair that breaks its rule.
@@ -90,9 +91,10 @@ fn check_pairs(file: &[u8]) -> Result<(), BundleFault>
             return Ok(());
         };
         let end = next.offset as usize + next.size as usize;
-        if (next.offset as usize) < from || file.len() < end {
-            return Err(BundleFault::Directory(index));
-        }
+        require(
+            from <= next.offset as usize && end <= file.len(),
+            BundleFault::Directory(index),
+        )?;
         from = end;
     }
 }

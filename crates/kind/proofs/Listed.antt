@@ -1,6 +1,6 @@
 -- From entries to elements and back. Assumes nothing.
-use Rattle.std.proofs.Common.{◌≡◌, ℕ, ◌+◌, ◌<◌, false, not, List, [], ◌∷◌, map, length, get_or, set, is_some, Some, None, Ok, Option, unwrap_or, sym, refl, ap, ◌∙◌, ap₂, arith}
-use Rattle.std.proofs.lemmas.List.{get_or-map, length-map, map-set}
+use Rattle.std.proofs.Common.{◌≡◌, ℕ, ◌+◌, ◌<◌, false, not, List, [], ◌∷◌, map, length, get_or, take, drop, set, is_some, Some, None, Ok, Option, unwrap_or, sym, refl, ap, ◌∙◌, ap₂, arith}
+use Rattle.std.proofs.lemmas.List.{get_or-map, length-map, map-set, take-map, drop-map}
 use Rattle.kind.specs.Faults.{first_bad}
 use Rattle.kind.specs.Kinds.{Meaning, Lawful, element_in, elements, AllElements}
 use Rattle.kind.specs.Products.{entries_refusal}
@@ -9,6 +9,20 @@ use Rattle.kind.proofs.Scans.{none_bad}
 
 pub length-elements : {M E : Type 0} (s : Meaning M E) (es : List E) → length (elements s es) ≡ length es
 length-elements s es = length-map es (element_in s)
+
+-- parts of a list
+module _ {M E : Type 0} (s : Meaning M E) where
+  pub elements-take : (n : ℕ) (es : List E) → elements s (take n es) ≡ take n (elements s es)
+  elements-take n es = sym (take-map _ n es)
+
+  pub elements-drop : (n : ℕ) (es : List E) → elements s (drop n es) ≡ drop n (elements s es)
+  elements-drop n es = sym (drop-map _ n es)
+
+  pub all_take : (n : ℕ) (es : List E) → AllElements s es → AllElements s (take n es)
+  all_take n es h = ap (map s.entry) (elements-take n es) ∙ sym (take-map s.entry n (elements s es)) ∙ ap (take n) h
+
+  pub all_drop : (n : ℕ) (es : List E) → AllElements s es → AllElements s (drop n es)
+  all_drop n es h = ap (map s.entry) (elements-drop n es) ∙ sym (drop-map s.entry n (elements s es)) ∙ ap (drop n) h
 
 module _ {M E : Type 0} (s : Meaning M E) (laws : Lawful s) where
   pub element_entry : (x : M) → element_in s (s.entry x) ≡ x

@@ -1,10 +1,11 @@
 // Lists that were checked.
-ghost use Rattle.std.specs.Prelude.{◌≡◌, ◌<◌, length, slice_index_or, Ok, IfOk, ⊤};
+ghost use Rattle.std.specs.Prelude.{◌≡◌, ◌<◌, length, take, drop, slice_index_or, Ok, IfOk, ⊤};
 ghost use Rattle.protocol.specs.Group.{product as product_of};
 ghost use Rattle.kind.specs.Faults.{and_then};
 ghost use Rattle.kind.specs.Kinds.{elements, AllElements};
 ghost use Rattle.kind.specs.Products.{entries_refusal};
 
+use crate::bytes::cut;
 use crate::entries::check_entries;
 use crate::fault::KindFault;
 use crate::kind::Kind;
@@ -36,6 +37,15 @@ impl<'a, K: Kind> Checked<'a, K> {
     {
         check_entries::<K>(entries)?;
         Ok(Checked { entries })
+    }
+
+    // The first n entries, and the rest. Where there are fewer, all of them, and nothing.
+    pub fn cut(&self, n: usize) -> (Checked<'a, K>, Checked<'a, K>)
+        ensures front { result.0.entries.now ≡ take n self.now.entries.now }
+        ensures back { result.1.entries.now ≡ drop n self.now.entries.now }
+    {
+        let (front, back) = cut(self.entries, n);
+        (Checked { entries: front }, Checked { entries: back })
     }
 
     // The element at a place.

@@ -1,6 +1,6 @@
 // What a fault tells, and the kind's own faults.
 ghost use Rattle.std.specs.Prelude.{◌≡◌};
-ghost use Rattle.kind.specs.Faults.{kind_refusal};
+ghost use Rattle.kind.specs.Faults.{kind_refusal, unless};
 
 // The layer in which a fault arose.
 #[derive(Clone, Copy, PartialEq, Eq, Debug)]
@@ -19,6 +19,13 @@ pub struct Refusal {
     pub number: u8,
     pub layer: Layer,
     pub place: usize,
+}
+
+// Refuses by the fault, unless the test holds.
+pub fn require<F: Drop>(holds: bool, fault: F) -> Result<(), F>
+    ensures { result ≡ unless holds fault }
+{
+    if holds { Ok(()) } else { Err(fault) }
 }
 
 // Why the kind's layer refuses.

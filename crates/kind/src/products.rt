@@ -3,7 +3,7 @@ ghost use Rattle.std.specs.Prelude.{◌≡◌, nat_le, position};
 ghost use Rattle.kind.specs.Products.{scalars_refusal, product_answer};
 
 use crate::checked::Checked;
-use crate::fault::KindFault;
+use crate::fault::{KindFault, require};
 use crate::kind::Kind;
 
 fn first_no_scalar<K: Kind>(scalars: &[u32]) -> Option<usize>
@@ -27,9 +27,10 @@ pub fn check_scalars<K: Kind>(scalars: &[u32]) -> Result<(), KindFault>
 pub fn product<K: Kind>(entries: &[K::Entry], scalars: &[u32]) -> Result<K, KindFault>
     ensures { result ≡ product_answer K.Kind.meaning entries.now scalars.now }
 {
-    if scalars.len() != entries.len() {
-        return Err(KindFault::Length(scalars.len()));
-    }
+    require(
+        scalars.len() == entries.len(),
+        KindFault::Length(scalars.len()),
+    )?;
     let elements = Checked::<K>::new(entries)?;
     check_scalars::<K>(scalars)?;
     Ok(elements.join_powers(scalars))

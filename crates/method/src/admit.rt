@@ -1,10 +1,11 @@
 // What is refused before a method begins.
 ghost use Rattle.std.specs.Prelude.{◌≡◌, ◌^◌, min, Ok, IfOk};
 ghost use Rattle.kind.specs.Faults.{and_then, first_of};
-ghost use Rattle.method.specs.Meaning.{is_size, size_refusal, length_refusal, room_refusal, scalar_refusal, length_refusals, content_refusals};
+ghost use Rattle.method.specs.Meaning.{is_size, scalar_refusal, length_refusals, content_refusals};
 
 use crate::fault::MethodFault;
 use kind::checked::Checked;
+use kind::fault::require;
 use kind::kind::Kind;
 
 pub fn is_size(n: usize) -> bool
@@ -13,44 +14,10 @@ pub fn is_size(n: usize) -> bool
     matches!(n, 1 | 2 | 4 | 8 | 16 | 32 | 64 | 128 | 256)
 }
 
-pub(crate) fn check_size(n: usize) -> Result<(), MethodFault>
-    ensures { result ≡ size_refusal n }
-{
-    if is_size(n) {
-        Ok(())
-    } else {
-        Err(MethodFault::Size(n))
-    }
-}
-
-pub(crate) fn check_length(n: usize, m: usize) -> Result<(), MethodFault>
-    ensures { result ≡ length_refusal n m }
-{
-    if m == n {
-        Ok(())
-    } else {
-        Err(MethodFault::Length(m))
-    }
-}
-
-pub(crate) fn check_room(n: usize, m: usize) -> Result<(), MethodFault>
-    ensures { result ≡ room_refusal n m }
-{
-    if n <= m {
-        Ok(())
-    } else {
-        Err(MethodFault::Room(m))
-    }
-}
-
 pub(crate) fn check_scalar<K: Kind>(a: u32) -> Result<(), MethodFault>
     ensures { result ≡ scalar_refusal K.Kind.meaning a }
 {
-    if a < K::order() {
-        Ok(())
-    } else {
-        Err(MethodFault::NotAScalar(0))
-    }
+    require(a < K::order(), MethodFault::NotAScalar(0))
 }
 
 // 5, 6 and 8: the lengths g and h of the lists, against n, and those of the work lists.
@@ -63,12 +30,12 @@ pub(crate) fn check_lengths(
 ) -> Result<(), MethodFault>
     ensures { result ≡ first_of (length_refusals n g h elements numbers) }
 {
-    check_size(g)?;
-    check_size(h)?;
-    check_length(n, g)?;
-    check_length(n, h)?;
-    check_room(n, elements)?;
-    check_room(n, numbers)
+    require(is_size(g), MethodFault::Size(g))?;
+    require(is_size(h), MethodFault::Size(h))?;
+    require(g == n, MethodFault::Length(g))?;
+    require(h == n, MethodFault::Length(h))?;
+    require(n <= elements, MethodFault::Room(elements))?;
+    require(n <= numbers, MethodFault::Room(numbers))
 }
 
 // 11 and 12: the lists, checked, after the last pair was.

@@ -9,12 +9,13 @@ ghost use Rattle.method.specs.Meaning.{reduced, cleared};
 ghost use Rattle.method.specs.QuickCheck.{weight_refusal, quick_lengths, quick_content, quick_passes, quick_answer};
 ghost use Rattle.method.specs.Tables.{challenges};
 
-use crate::admit::{check_length, check_room, check_scalar, check_size};
+use crate::admit::{check_scalar, is_size};
 use crate::fault::MethodFault;
 use crate::table::ChallengeTable;
 use crate::weights::fill_weights;
 use kind::checked::Checked;
 use kind::entries::clear_entries;
+use kind::fault::require;
 use kind::kind::Kind;
 use kind::modular::mul_scalars;
 use kind::pair::Pair;
@@ -22,11 +23,10 @@ use kind::pair::Pair;
 fn check_weight<K: Kind>(weight: u32) -> Result<(), MethodFault>
     ensures { result ≡ weight_refusal K.Kind.meaning weight }
 {
-    if 0 < weight && weight < K::order() {
-        Ok(())
-    } else {
-        Err(MethodFault::NotAChallenge(0))
-    }
+    require(
+        0 < weight && weight < K::order(),
+        MethodFault::NotAChallenge(0),
+    )
 }
 
 fn check_quick_lengths(
@@ -37,10 +37,10 @@ fn check_quick_lengths(
 ) -> Result<(), MethodFault>
     ensures { result ≡ first_of (quick_lengths n g elements numbers) }
 {
-    check_size(g)?;
-    check_length(n, g)?;
-    check_room(n, elements)?;
-    check_room(n, numbers)
+    require(is_size(g), MethodFault::Size(g))?;
+    require(g == n, MethodFault::Length(g))?;
+    require(n <= elements, MethodFault::Room(elements))?;
+    require(n <= numbers, MethodFault::Room(numbers))
 }
 
 // The list, checked, after the last pair and the weight were.

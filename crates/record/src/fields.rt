@@ -6,6 +6,7 @@ ghost use Rattle.record.specs.Fields.{scalar_in, challenge_in, last_in, element_
 use crate::fault::RecordFault;
 use crate::round::Round;
 use kind::bytes::{cut, number_in};
+use kind::fault::require;
 use kind::kind::Kind;
 use kind::pair::Pair;
 use kind::written::WrittenKind;
@@ -14,22 +15,16 @@ fn read_scalar<K: Kind>(bytes: &[u8], place: usize) -> Result<u32, RecordFault>
     ensures { result ≡ scalar_in K.Kind.meaning.order place bytes.now }
 {
     let n = number_in(bytes);
-    if n < K::order() {
-        Ok(n)
-    } else {
-        Err(RecordFault::NotAScalar(place))
-    }
+    require(n < K::order(), RecordFault::NotAScalar(place))?;
+    Ok(n)
 }
 
 fn read_challenge<K: Kind>(bytes: &[u8], place: usize) -> Result<u32, RecordFault>
     ensures { result ≡ challenge_in K.Kind.meaning.order place bytes.now }
 {
     let n = number_in(bytes);
-    if 0 < n && n < K::order() {
-        Ok(n)
-    } else {
-        Err(RecordFault::NotAChallenge(place))
-    }
+    require(0 < n && n < K::order(), RecordFault::NotAChallenge(place))?;
+    Ok(n)
 }
 
 fn read_element<K: WrittenKind>(bytes: &[u8], place: usize) -> Result<K, RecordFault>

@@ -13,6 +13,7 @@ use crate::fields::{read_last, read_pair, read_round};
 use crate::noted::Noted;
 use crate::part::{Part, Reader};
 use kind::bytes::byte_at;
+use kind::fault::require;
 use kind::kind::Kind;
 use kind::pair::Pair;
 use kind::written::WrittenKind;
@@ -24,16 +25,11 @@ fn check_shape<K: WrittenKind>(bytes: &[u8]) -> Result<u8, RecordFault>
     ensures { result ≡ shape_in K.WrittenKind.writing.width bytes.now }
 {
     let width = K::width();
-    if bytes.is_empty() {
-        return Err(RecordFault::Length(0));
-    }
+    require(!bytes.is_empty(), RecordFault::Length(0))?;
     let k = byte_at(bytes, 0);
-    if k > 8 {
-        return Err(RecordFault::TooManyRounds);
-    }
-    if bytes.len() != 9 + 2 * width + k as usize * (4 * width + 4) {
-        return Err(RecordFault::Length(bytes.len()));
-    }
+    require(k <= 8, RecordFault::TooManyRounds)?;
+    let length = 9 + 2 * width + k as usize * (4 * width + 4);
+    require(bytes.len() == length, RecordFault::Length(bytes.len()))?;
     Ok(k)
 }
 

@@ -6,7 +6,7 @@ use Rattle.kind.specs.Products.{entries_refusal}
 use Rattle.kind.proofs.Listed.{all_checked}
 use Rattle.kind.proofs.Steps.{both_went, held, unwrapped}
 use Rattle.method.specs.Meaning.{is_size}
-use Rattle.writer.specs.Ready.{Ready}
+use Rattle.writer.specs.Ready.{AsLong, Ready}
 use Rattle.writer.specs.Refusals.{size_refusal, length_refusal, sizes_refused, lengths_refused, length_one_refused, content_refused, claim_refused, message_refused, fold_refused}
 use Rattle.writer.specs.declared.fault.WriterFault.TheVariants.{Size, Length, LengthOne, Kind}
 
@@ -43,11 +43,6 @@ pub g_sized : (g h l r : ℕ) → sizes_refused g h l r ≡ Ok tt → is_size g 
 g_sized g h l r e =
     let a = both_went (size_refusal g) _ tt e in
     held (is_size g) (Size g) a.0 a.1
-
-pub record AsLong (g h l r : ℕ) : Type 0 where
-  pub long_h : h ≡ g
-  pub long_l : l ≡ g
-  pub long_r : r ≡ g
 
 pub as_long : (g h l r : ℕ) → lengths_refused g h l r ≡ Ok tt → AsLong g h l r
 as_long g h l r e =

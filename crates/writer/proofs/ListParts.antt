@@ -1,37 +1,15 @@
 -- Parts of lists of entries, and lists whose last half is cleared. Assumes nothing.
-use Rattle.std.proofs.Common.{◌≡◌, ℕ, zero, suc, ◌+◌, ◌-◌, ◌/◌, List, [], ◌∷◌, ◌++◌, map, length, take, drop, replicate, sym, refl, ap, ◌∙◌, ap₂, append-nil, arith, length-drop}
+use Rattle.std.proofs.Common.{◌≡◌, ℕ, ◌+◌, ◌-◌, ◌/◌, List, ◌++◌, map, length, take, drop, replicate, sym, ap, ◌∙◌, ap₂, append-nil, arith, length-drop}
 use mathlib.Core.List.{map-append}
 use borrow.Rule.Slice.PartMut.{put_mid}
 use Rattle.std.proofs.lemmas.List.{drop_all, length-take-le}
 use Rattle.protocol.specs.Halving.{first_half, last_half}
 use Rattle.kind.specs.Kinds.{Meaning, elements, AllElements}
-use Rattle.kind.proofs.Listed.{length-elements}
-
-pub map-take : {A B : Type 0} (f : A → B) (n : ℕ) (xs : List A) → map f (take n xs) ≡ take n (map f xs)
-map-take f zero xs = refl
-map-take f (suc n) [] = refl
-map-take f (suc n) (x ∷ xs) = ap (λ l. f x ∷ l) (map-take f n xs)
-
-pub map-drop : {A B : Type 0} (f : A → B) (n : ℕ) (xs : List A) → map f (drop n xs) ≡ drop n (map f xs)
-map-drop f zero xs = refl
-map-drop f (suc n) [] = refl
-map-drop f (suc n) (x ∷ xs) = map-drop f n xs
+use Rattle.kind.proofs.Listed.{length-elements, elements-take, elements-drop}
 
 module _ {M E : Type 0} (s : Meaning M E) where
-  pub elements-take : (n : ℕ) (es : List E) → elements s (take n es) ≡ take n (elements s es)
-  elements-take n es = map-take _ n es
-
-  pub elements-drop : (n : ℕ) (es : List E) → elements s (drop n es) ≡ drop n (elements s es)
-  elements-drop n es = map-drop _ n es
-
   pub elements-append : (a b : List E) → elements s (a ++ b) ≡ elements s a ++ elements s b
   elements-append a b = map-append _ a b
-
-  pub all_take : (n : ℕ) (es : List E) → AllElements s es → AllElements s (take n es)
-  all_take n es h = ap (map s.entry) (elements-take n es) ∙ map-take s.entry n (elements s es) ∙ ap (take n) h
-
-  pub all_drop : (n : ℕ) (es : List E) → AllElements s es → AllElements s (drop n es)
-  all_drop n es h = ap (map s.entry) (elements-drop n es) ∙ map-drop s.entry n (elements s es) ∙ ap (drop n) h
 
   pub all_append : (a b : List E) → AllElements s a → AllElements s b → AllElements s (a ++ b)
   all_append a b f h = ap (map s.entry) (elements-append a b) ∙ map-append s.entry (elements s a) (elements s b) ∙ ap₂ ◌++◌ f h

@@ -1,5 +1,6 @@
 // The claim, message and fold calls.
-ghost use Rattle.std.specs.Prelude.{◌≡◌, map};
+ghost use Rattle.std.specs.Prelude.{◌≡◌, map, Ok, IfOk};
+ghost use Rattle.kind.specs.Faults.{and_then};
 ghost use Rattle.kind.specs.Kinds.{unit_entry};
 ghost use Rattle.ledger.specs.Rules.{folded};
 ghost use Rattle.writer.specs.Answers.{lists_of, halved, claim_answer, message_answer};
@@ -10,30 +11,35 @@ use crate::commitments::commit_second;
 use crate::fault::WriterFault;
 use crate::folds::{fold_elements, fold_scalars};
 use crate::halves::message_across;
+use kind::checked::Checked;
 use kind::kind::Kind;
 use kind::side::Side;
 use ledger::parts;
 
-fn admit_claim<K: Kind>(
-    g: &[K::Entry],
-    h: &[K::Entry],
+fn admit_claim<'a, K: Kind>(
+    g: &'a [K::Entry],
+    h: &'a [K::Entry],
     l: &[u32],
     r: &[u32],
-) -> Result<(), WriterFault>
-    ensures { result ≡ claim_refused K.Kind.meaning g.now h.now l.now r.now }
+) -> Result<(Checked<'a, K>, Checked<'a, K>), WriterFault>
+    ensures refused { and_then result (λ _. Ok tt) ≡ claim_refused K.Kind.meaning g.now h.now l.now r.now }
+    ensures g { IfOk result (λ p. p.0.entries.now ≡ g.now) }
+    ensures h { IfOk result (λ p. p.1.entries.now ≡ h.now) }
 {
     check_sizes(g.len(), h.len(), l.len(), r.len())?;
     check_lengths(g.len(), h.len(), l.len(), r.len())?;
     check_content::<K>(g, h, l, r)
 }
 
-fn admit_message<K: Kind>(
-    g: &[K::Entry],
-    h: &[K::Entry],
+fn admit_message<'a, K: Kind>(
+    g: &'a [K::Entry],
+    h: &'a [K::Entry],
     l: &[u32],
     r: &[u32],
-) -> Result<(), WriterFault>
-    ensures { result ≡ message_refused K.Kind.meaning g.now h.now l.now r.now }
+) -> Result<(Checked<'a, K>, Checked<'a, K>), WriterFault>
+    ensures refused { and_then result (λ _. Ok tt) ≡ message_refused K.Kind.meaning g.now h.now l.now r.now }
+    ensures g { IfOk result (λ p. p.0.entries.now ≡ g.now) }
+    ensures h { IfOk result (λ p. p.1.entries.now ≡ h.now) }
 {
     check_sizes(g.len(), h.len(), l.len(), r.len())?;
     check_lengths(g.len(), h.len(), l.len(), r.len())?;
@@ -64,9 +70,9 @@ pub fn claim<K: Kind>(
 ) -> Result<(K, K), WriterFault>
     ensures { result ≡ claim_answer K.Kind.meaning g.now h.now key l.now r.now }
 {
-    admit_claim::<K>(g, h, l, r)?;
-    let z1 = K::join_powers(g, l);
-    let z2 = commit_second::<K>(h, key, l, r);
+    let (gs, hs) = admit_claim::<K>(g, h, l, r)?;
+    let z1 = gs.join_powers(l);
+    let z2 = commit_second(&hs, key, l, r);
     Ok((z1, z2))
 }
 
@@ -80,8 +86,8 @@ pub fn message<K: Kind>(
 ) -> Result<parts::Message<K>, WriterFault>
     ensures { result ≡ message_answer K.Kind.meaning g.now h.now key l.now r.now }
 {
-    admit_message::<K>(g, h, l, r)?;
-    Ok(message_across::<K>(g, h, key, l, r))
+    let (gs, hs) = admit_message::<K>(g, h, l, r)?;
+    Ok(message_across(&gs, &hs, key, l, r))
 }
 
 // The fold call: all four lists folded by the challenge c, in their first halves; units and zeros stand in the last halves.

@@ -1,6 +1,5 @@
 // The writer's faults, and how it takes up the kind's.
-ghost use Rattle.std.specs.Prelude.{◌≡◌, ℕ};
-ghost use Rattle.kind.specs.Faults.{wrapped};
+ghost use Rattle.std.specs.Prelude.{◌≡◌};
 ghost use Rattle.writer.specs.Faults.{writer_refusal};
 ghost use Rattle.writer.specs.declared.fault.WriterFault.TheVariants.{Kind};
 
@@ -29,62 +28,28 @@ impl WriterFault {
     pub fn refusal(self) -> Refusal
         ensures { result ≡ writer_refusal self }
     {
-        let layer = Layer::Writer;
-        match self {
-            WriterFault::Size(place) => Refusal {
-                number: 5,
-                layer,
-                place,
-            },
-            WriterFault::Length(place) => Refusal {
-                number: 6,
-                layer,
-                place,
-            },
-            WriterFault::LengthOne => Refusal {
-                number: 7,
-                layer,
-                place: 0,
-            },
-            WriterFault::Room(place) => Refusal {
-                number: 8,
-                layer,
-                place,
-            },
-            WriterFault::NotAScalar(place) => Refusal {
-                number: 12,
-                layer,
-                place,
-            },
-            WriterFault::NotAChallenge(place) => Refusal {
-                number: 13,
-                layer,
-                place,
-            },
-            WriterFault::Kind(fault, _) => fault.refusal(),
+        let (number, place) = match self {
+            WriterFault::Size(place) => (5, place),
+            WriterFault::Length(place) => (6, place),
+            WriterFault::LengthOne => (7, 0),
+            WriterFault::Room(place) => (8, place),
+            WriterFault::NotAScalar(place) => (12, place),
+            WriterFault::NotAChallenge(place) => (13, place),
+            WriterFault::Kind(fault, _) => return fault.refusal(),
+        };
+        Refusal {
+            number,
+            layer: Layer::Writer,
+            place,
         }
     }
 }
 
-// A result of a lower layer, as the writer's: its fault is kept whole, with the writer's place.
-pub trait InWriter: Sized {
-    type Told;
+// The kind's fault is kept whole. The writer's own place for it is 0.
+impl From<KindFault> for WriterFault {
+    ghost from_gives = { λ fault r. r ≡ Kind fault 0 };
 
-    ghost told: { Self → ℕ → Self.Told };
-
-    fn in_writer(self, place: usize) -> Self::Told
-        ensures { result ≡ told self place };
-}
-
-impl<T> InWriter for Result<T, KindFault> {
-    type Told = Result<T, WriterFault>;
-
-    ghost told = { wrapped Kind };
-
-    fn in_writer(self, place: usize) -> Result<T, WriterFault> {
-        match self {
-            Ok(x) => Ok(x),
-            Err(fault) => Err(WriterFault::Kind(fault, place)),
-        }
+    fn from(fault: KindFault) -> WriterFault {
+        WriterFault::Kind(fault, 0)
     }
 }

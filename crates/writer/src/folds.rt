@@ -5,9 +5,9 @@ ghost use Rattle.kind.specs.Sides.{fold_by, fold_of};
 ghost use Rattle.writer.specs.Folds.{fold_scalars, folds_scalars};
 
 use kind::entries::clear_entries;
+use kind::folds::fold_within;
 use kind::kind::Kind;
 use kind::side::Side;
-use method::last_pair::clear_numbers;
 
 // Folds a list of elements.
 pub(crate) fn fold_elements<K: Kind>(side: Side, c: u32, xs: &mut [K::Entry])
@@ -15,10 +15,9 @@ pub(crate) fn fold_elements<K: Kind>(side: Side, c: u32, xs: &mut [K::Entry])
     requires even { length xs.old / 2 + length xs.old / 2 ≡ length xs.old }
     ensures { xs.new ≡ map K.Kind.meaning.entry (fold_of K.Kind.meaning side c (elements K.Kind.meaning xs.old)) ++ replicate (length xs.old / 2) (unit_entry K.Kind.meaning) }
 {
-    let n = xs.len();
-    let m = n / 2;
-    K::fold_within(side, c, m, xs);
-    clear_entries::<K>(&mut xs[m..n]);
+    let m = xs.len() / 2;
+    fold_within::<K>(side, c, m, xs);
+    clear_entries::<K>(&mut xs[m..]);
 }
 
 // One scalar of each half, folded by c modulo the order.
@@ -37,6 +36,7 @@ fn fold_scalars_within<K: Kind>(side: Side, c: u32, m: usize, xs: &mut [u32])
     requires { m + m ≤ length xs.old }
     ensures { take m xs.new ≡ folds_scalars K.Kind.meaning.order side c (take (m + m) xs.old) }
 {
+    // By index: what is written and both that it is made from are in one list.
     for i in 0..m {
         xs[i] = fold_scalar_pair::<K>(side, c, xs[i], xs[m + i]);
     }
@@ -47,8 +47,7 @@ pub(crate) fn fold_scalars<K: Kind>(side: Side, c: u32, xs: &mut [u32])
     requires { length xs.old / 2 + length xs.old / 2 ≡ length xs.old }
     ensures { xs.new ≡ folds_scalars K.Kind.meaning.order side c xs.old ++ replicate (length xs.old / 2) 0 }
 {
-    let n = xs.len();
-    let m = n / 2;
+    let m = xs.len() / 2;
     fold_scalars_within::<K>(side, c, m, xs);
-    clear_numbers(&mut xs[m..n]);
+    xs[m..].fill(0);
 }

@@ -11,6 +11,7 @@ ghost use Rattle.writer.specs.Rows.{lists_in};
 
 use crate::laying::{put_number, put_round};
 use crate::rows::{fold_rows, message_of_rows};
+use kind::checked::Checked;
 use kind::kind::Kind;
 use kind::written::WrittenKind;
 
@@ -34,7 +35,8 @@ fn play_round<K: WrittenKind>(
     ensures folded { lists_in K.Kind.meaning n m elements.new numbers.new ≡ folded K.Kind.meaning c (lists_in K.Kind.meaning n (m + m) elements.old numbers.old) }
     ensures laid { Laid at (round_written K.WrittenKind.writing (round_of (lower (message_of K.Kind.meaning key (lists_in K.Kind.meaning n (m + m) elements.old numbers.old))) (upper (message_of K.Kind.meaning key (lists_in K.Kind.meaning n (m + m) elements.old numbers.old))) c)) out.old out.new result }
 {
-    let message = message_of_rows(key, n, m, elements, numbers);
+    let list = Checked::<K> { entries: elements };
+    let message = message_of_rows(key, n, m, &list, numbers);
     let past = put_round(message, c, at, out);
     fold_rows::<K>(c, n, m, elements, numbers);
     past
@@ -68,9 +70,9 @@ pub(crate) fn put_rounds<K: WrittenKind>(
 {
     let mut m = n;
     let mut at = start;
-    for i in 0..cs.len() {
-        m = m / 2;
-        at = play_round::<K>(key, cs[i], n, m, elements, numbers, at, out);
+    for c in cs {
+        m /= 2;
+        at = play_round::<K>(key, *c, n, m, elements, numbers, at, out);
     }
     put_last(numbers[0], numbers[n], at, out)
 }

@@ -10,6 +10,7 @@ ghost use Rattle.writer.specs.Rows.{lists_in};
 use crate::folds::{fold_elements, fold_scalars};
 use crate::halves::message_across;
 use kind::bytes::cut;
+use kind::checked::Checked;
 use kind::kind::Kind;
 use kind::side::Side;
 use ledger::parts::Message;
@@ -30,22 +31,21 @@ pub(crate) fn message_of_rows<K: Kind>(
     key: K,
     n: usize,
     m: usize,
-    elements: &[K::Entry],
+    elements: &Checked<K>,
     numbers: &[u32],
 ) -> Message<K>
-    requires checked { AllElements K.Kind.meaning elements.now }
-    requires elements { length elements.now ≡ n + n }
+    requires elements { length elements.now.entries.now ≡ n + n }
     requires numbers { length numbers.now ≡ n + n }
     requires rows { m + m ≤ n }
-    ensures { result ≡ message_of K.Kind.meaning key (lists_in K.Kind.meaning n (m + m) elements.now numbers.now) }
+    ensures { result ≡ message_of K.Kind.meaning key (lists_in K.Kind.meaning n (m + m) elements.now.entries.now numbers.now) }
 {
-    let (_, second_elements) = cut(elements, n);
+    let (_, second_elements) = elements.cut(n);
     let (_, second_numbers) = cut(numbers, n);
-    let (g, _) = cut(elements, m + m);
-    let (h, _) = cut(second_elements, m + m);
+    let (g, _) = elements.cut(m + m);
+    let (h, _) = second_elements.cut(m + m);
     let (l, _) = cut(numbers, m + m);
     let (r, _) = cut(second_numbers, m + m);
-    message_across::<K>(g, h, key, l, r)
+    message_across(&g, &h, key, l, r)
 }
 
 // Folds the lists of 2m entries among the elements into lists of m.

@@ -1,11 +1,12 @@
 // The whole-proof call.
-ghost use Rattle.std.specs.Prelude.{◌≡◌, ◌+◌, ◌*◌, ◌≤◌, length, replicate};
+ghost use Rattle.std.specs.Prelude.{◌≡◌, ◌+◌, ◌*◌, ◌≤◌, length, replicate, Ok, IfOk};
+ghost use Rattle.kind.specs.Faults.{and_then};
 ghost use Rattle.kind.specs.Kinds.{unit_entry};
 ghost use Rattle.method.specs.Meaning.{cleared};
 ghost use Rattle.record.specs.Parts.{record_length};
 ghost use Rattle.writer.specs.Answers.{lists_of};
 ghost use Rattle.writer.specs.Laying.{Laid};
-ghost use Rattle.writer.specs.Ready.{Ready};
+ghost use Rattle.writer.specs.Ready.{AsLong};
 ghost use Rattle.writer.specs.Records.{front_of, record_of};
 ghost use Rattle.writer.specs.Rows.{WritableLists};
 ghost use Rattle.writer.specs.Whole.{rooms_refused, whole_refused, whole_answer, begun};
@@ -17,6 +18,7 @@ use crate::laying::{put_byte, put_element};
 use crate::rounds::{put_last, put_rounds};
 use crate::rows::copy_rows;
 use crate::scrub::Scrub;
+use kind::checked::Checked;
 use kind::entries::clear_entries;
 use kind::kind::Kind;
 use kind::written::WrittenKind;
@@ -48,40 +50,43 @@ fn check_rooms(
     check_room(n + n, numbers)
 }
 
-fn admit_whole<K: WrittenKind>(
-    g: &[K::Entry],
-    h: &[K::Entry],
+fn admit_whole<'a, K: WrittenKind>(
+    g: &'a [K::Entry],
+    h: &'a [K::Entry],
     l: &[u32],
     r: &[u32],
     cs: &[u32],
     out: usize,
     elements: usize,
     numbers: usize,
-) -> Result<(), WriterFault>
-    ensures { result ≡ whole_refused K.Kind.meaning K.WrittenKind.writing.width g.now h.now l.now r.now cs.now out elements numbers }
+) -> Result<(Checked<'a, K>, Checked<'a, K>), WriterFault>
+    ensures refused { and_then result (λ _. Ok tt) ≡ whole_refused K.Kind.meaning K.WrittenKind.writing.width g.now h.now l.now r.now cs.now out elements numbers }
+    ensures g { IfOk result (λ p. p.0.entries.now ≡ g.now) }
+    ensures h { IfOk result (λ p. p.1.entries.now ≡ h.now) }
 {
     check_shape(g.len(), h.len(), l.len(), r.len(), cs.len())?;
     check_rooms(K::width(), g.len(), cs.len(), out, elements, numbers)?;
-    check_content::<K>(g, h, l, r)?;
-    check_challenges::<K>(cs)
+    let lists = check_content::<K>(g, h, l, r)?;
+    check_challenges::<K>(cs)?;
+    Ok(lists)
 }
 
 // The number of rounds and the claim.
 fn put_front<K: WrittenKind>(
-    g: &[K::Entry],
-    h: &[K::Entry],
+    g: &Checked<K>,
+    h: &Checked<K>,
     key: K,
     l: &[u32],
     r: &[u32],
     k: u8,
     out: &mut [u8],
 ) -> usize
-    requires ready { Ready K.Kind.meaning g.now h.now l.now r.now }
+    requires long { AsLong (length g.now.entries.now) (length h.now.entries.now) (length l.now) (length r.now) }
     requires room { 1 + 2 * K.WrittenKind.writing.width ≤ length out.old }
-    ensures { Laid 0 (front_of K.Kind.meaning K.WrittenKind.writing key k (lists_of K.Kind.meaning g.now h.now l.now r.now)) out.old out.new result }
+    ensures { Laid 0 (front_of K.Kind.meaning K.WrittenKind.writing key k (lists_of K.Kind.meaning g.now.entries.now h.now.entries.now l.now r.now)) out.old out.new result }
 {
-    let z1 = K::join_powers(g, l);
-    let z2 = commit_second::<K>(h, key, l, r);
+    let z1 = g.join_powers(l);
+    let z2 = commit_second(h, key, l, r);
     let first = put_byte(k, 0, out);
     let second = put_element(z1, first, out);
     put_element(z2, second, out)
@@ -90,8 +95,8 @@ fn put_front<K: WrittenKind>(
 // The record, written through work lists of just twice the length. The guard over the numbers, which hold secret scalars from
 // the first copy on, clears them on both ways out. Lists of one entry have no rounds, and G and H are not copied.
 fn write_record<K: WrittenKind>(
-    g: &[K::Entry],
-    h: &[K::Entry],
+    g: &Checked<K>,
+    h: &Checked<K>,
     key: K,
     l: &[u32],
     r: &[u32],
@@ -100,20 +105,20 @@ fn write_record<K: WrittenKind>(
     elements: &mut [K::Entry],
     numbers: &mut [u32],
 ) -> usize
-    requires { WritableLists K.Kind.meaning K.WrittenKind.writing.width (length cs.now) g.now h.now l.now r.now (length out.old) (length elements.old) (length numbers.old) }
-    ensures out { Laid 0 (record_of K.Kind.meaning K.WrittenKind.writing key cs.now (lists_of K.Kind.meaning g.now h.now l.now r.now)) out.old out.new result }
+    requires { WritableLists K.WrittenKind.writing.width (length cs.now) (length g.now.entries.now) (length h.now.entries.now) (length l.now) (length r.now) (length out.old) (length elements.old) (length numbers.old) }
+    ensures out { Laid 0 (record_of K.Kind.meaning K.WrittenKind.writing key cs.now (lists_of K.Kind.meaning g.now.entries.now h.now.entries.now l.now r.now)) out.old out.new result }
     ensures elements { elements.new ≡ replicate (length elements.old) (unit_entry K.Kind.meaning) }
     ensures numbers { numbers.new ≡ replicate (length numbers.old) 0 }
 {
     let guard = Scrub(numbers);
     copy_rows(l, r, &mut *guard.0);
-    let at = put_front::<K>(g, h, key, l, r, cs.len() as u8, out);
-    if cs.len() == 0 {
+    let at = put_front(g, h, key, l, r, cs.len() as u8, out);
+    if cs.is_empty() {
         clear_entries::<K>(elements);
         return put_last(guard.0[0], guard.0[1], at, out);
     }
-    copy_rows(g, h, elements);
-    let end = put_rounds::<K>(key, cs, g.len(), elements, &mut *guard.0, at, out);
+    copy_rows(g.entries, h.entries, elements);
+    let end = put_rounds::<K>(key, cs, g.entries.len(), elements, &mut *guard.0, at, out);
     clear_entries::<K>(elements);
     end
 }
@@ -137,7 +142,7 @@ pub fn whole_proof<K: WrittenKind>(
     ensures elements { work_elements.new ≡ cleared result (length g.now + length g.now) (unit_entry K.Kind.meaning) work_elements.old }
     ensures numbers { work_numbers.new ≡ cleared result (length g.now + length g.now) 0 work_numbers.old }
 {
-    admit_whole::<K>(
+    let (gs, hs) = admit_whole::<K>(
         g,
         h,
         l,
@@ -148,15 +153,15 @@ pub fn whole_proof<K: WrittenKind>(
         work_numbers.len(),
     )?;
     let twice = g.len() + g.len();
-    Ok(write_record::<K>(
-        g,
-        h,
+    Ok(write_record(
+        &gs,
+        &hs,
         key,
         l,
         r,
         challenges,
         out,
-        &mut work_elements[0..twice],
-        &mut work_numbers[0..twice],
+        &mut work_elements[..twice],
+        &mut work_numbers[..twice],
     ))
 }

@@ -1,55 +1,46 @@
-use Rattle.std.proofs.Common.{ℕ, ◌/◌, length, sym, ◌∙◌, subst, arith}
+use Rattle.std.proofs.Common.{ℕ, ◌/◌, length, sym, ◌∙◌, arith}
 use Rattle.protocol.specs.Halving.{claim1, claim2}
-use Rattle.kind.specs.Kinds.{AllElements}
-use Rattle.writer.proofs.ListParts.{all_take, all_drop, half_first, half_last, entries_first, entries_last, long_first, long_last}
+use Rattle.writer.proofs.ListParts.{half_first, half_last, entries_first, entries_last, long_first, long_last}
 use Rattle.writer.proofs.halves.message_across.Goals as goal
 
 pub join_powers-l1-requires : goal.join_powers-l1-requires
 join_powers-l1-requires g c =
-    let p = c.requires.ready in
-    let m : ℕ = length c.args.g.now / 2 in
+    let p = c.requires.long in
+    let gs = c.args.g.now.entries.now in
+    let m : ℕ = length gs / 2 in
     let even = c.requires.even in
-    record {
-      checked = subst (AllElements g.K.Kind.meaning) (sym c.cut.ensures.front) (all_take g.K.Kind.meaning m c.args.g.now p.all_g);
-      long = long_last m c.args.l.now _ c.cut-3.ensures.back (omega (arith, p.long_l))
-          ∙ sym (long_first m c.args.g.now _ c.cut.ensures.front (omega arith));
-    }
+    long_last m c.args.l.now _ c.cut-3.ensures.back (omega (arith, p.long_l)) ∙ sym (long_first m gs _ c.cut.ensures.front (omega arith))
 
 pub commit_second-l2-requires : goal.commit_second-l2-requires
 commit_second-l2-requires g c =
-    let p = c.requires.ready in
-    let m : ℕ = length c.args.g.now / 2 in
+    let p = c.requires.long in
+    let hs = c.args.h.now.entries.now in
+    let m : ℕ = length c.args.g.now.entries.now / 2 in
     let even = c.requires.even in
+    let r_first = long_first m c.args.r.now _ c.cut-4.ensures.front (omega (arith, p.long_r)) in
     record {
-      checked = subst (AllElements g.K.Kind.meaning) (sym c.cut-2.ensures.back) (all_drop g.K.Kind.meaning m c.args.h.now p.all_h);
-      long = long_first m c.args.r.now _ c.cut-4.ensures.front (omega (arith, p.long_r))
-          ∙ sym (long_last m c.args.h.now _ c.cut-2.ensures.back (omega (arith, p.long_h)));
-      same = long_first m c.args.r.now _ c.cut-4.ensures.front (omega (arith, p.long_r))
-          ∙ sym (long_last m c.args.l.now _ c.cut-3.ensures.back (omega (arith, p.long_l)));
+      long = r_first ∙ sym (long_last m hs _ c.cut-2.ensures.back (omega (arith, p.long_h)));
+      same = r_first ∙ sym (long_last m c.args.l.now _ c.cut-3.ensures.back (omega (arith, p.long_l)));
     }
 
 pub join_powers-r1-requires : goal.join_powers-r1-requires
 join_powers-r1-requires g c =
-    let p = c.requires.ready in
-    let m : ℕ = length c.args.g.now / 2 in
+    let p = c.requires.long in
+    let gs = c.args.g.now.entries.now in
+    let m : ℕ = length gs / 2 in
     let even = c.requires.even in
-    record {
-      checked = subst (AllElements g.K.Kind.meaning) (sym c.cut.ensures.back) (all_drop g.K.Kind.meaning m c.args.g.now p.all_g);
-      long = long_first m c.args.l.now _ c.cut-3.ensures.front (omega (arith, p.long_l))
-          ∙ sym (long_last m c.args.g.now _ c.cut.ensures.back (omega arith));
-    }
+    long_first m c.args.l.now _ c.cut-3.ensures.front (omega (arith, p.long_l)) ∙ sym (long_last m gs _ c.cut.ensures.back (omega arith))
 
 pub commit_second-r2-requires : goal.commit_second-r2-requires
 commit_second-r2-requires g c =
-    let p = c.requires.ready in
-    let m : ℕ = length c.args.g.now / 2 in
+    let p = c.requires.long in
+    let hs = c.args.h.now.entries.now in
+    let m : ℕ = length c.args.g.now.entries.now / 2 in
     let even = c.requires.even in
+    let r_last = long_last m c.args.r.now _ c.cut-4.ensures.back (omega (arith, p.long_r)) in
     record {
-      checked = subst (AllElements g.K.Kind.meaning) (sym c.cut-2.ensures.front) (all_take g.K.Kind.meaning m c.args.h.now p.all_h);
-      long = long_last m c.args.r.now _ c.cut-4.ensures.back (omega (arith, p.long_r))
-          ∙ sym (long_first m c.args.h.now _ c.cut-2.ensures.front (omega (arith, p.long_h)));
-      same = long_last m c.args.r.now _ c.cut-4.ensures.back (omega (arith, p.long_r))
-          ∙ sym (long_first m c.args.l.now _ c.cut-3.ensures.front (omega (arith, p.long_l)));
+      long = r_last ∙ sym (long_first m hs _ c.cut-2.ensures.front (omega (arith, p.long_h)));
+      same = r_last ∙ sym (long_first m c.args.l.now _ c.cut-3.ensures.front (omega (arith, p.long_l)));
     }
 
 pub returns : goal.returns
@@ -58,12 +49,14 @@ returns g c =
     let q = s.order in
     let o = s.group in
     let k = c.args.key in
-    let p = c.requires.ready in
-    let m : ℕ = length c.args.g.now / 2 in
-    let ga = entries_first s m c.args.g.now _ c.cut.ensures.front (omega arith) in
-    let gb = entries_last s m c.args.g.now _ c.cut.ensures.back (omega arith) in
-    let ha = entries_first s m c.args.h.now _ c.cut-2.ensures.front (omega (arith, p.long_h)) in
-    let hb = entries_last s m c.args.h.now _ c.cut-2.ensures.back (omega (arith, p.long_h)) in
+    let p = c.requires.long in
+    let gs = c.args.g.now.entries.now in
+    let hs = c.args.h.now.entries.now in
+    let m : ℕ = length gs / 2 in
+    let ga = entries_first s m gs _ c.cut.ensures.front (omega arith) in
+    let gb = entries_last s m gs _ c.cut.ensures.back (omega arith) in
+    let ha = entries_first s m hs _ c.cut-2.ensures.front (omega (arith, p.long_h)) in
+    let hb = entries_last s m hs _ c.cut-2.ensures.back (omega (arith, p.long_h)) in
     let la = half_first m c.args.l.now _ c.cut-3.ensures.front (omega (arith, p.long_l)) in
     let lb = half_last m c.args.l.now _ c.cut-3.ensures.back (omega (arith, p.long_l)) in
     let ra = half_first m c.args.r.now _ c.cut-4.ensures.front (omega (arith, p.long_r)) in

@@ -4,8 +4,8 @@ use Rattle.writer.proofs.Lengths.{rest_of_long}
 use Rattle.writer.proofs.Underway.{underway_room, underway_more, last_room, underway_end}
 use Rattle.writer.proofs.rounds.put_rounds.Goals as goal
 
-pub loop-i-init : goal.loop-i-init
-loop-i-init g c =
+pub loop-c-init : goal.loop-c-init
+loop-c-init g c =
     let s = g.K.Kind.meaning in
     let n : ℕ = c.args.n in
     let cs : List ℕ = c.args.cs.now in
@@ -22,8 +22,8 @@ loop-i-init g c =
 
 pub play_round-at-requires : goal.play_round-at-requires
 play_round-at-requires g c =
-    let inv = c.loop-i.invariant in
-    let m : ℕ = c.loop-i.m in
+    let inv = c.loop-c.invariant in
+    let m : ℕ = c.loop-c.m in
     record {
       checked = inv.checked;
       elements = omega (arith, c.requires.elements);
@@ -32,17 +32,17 @@ play_round-at-requires g c =
       room = underway_room g.K.Kind.meaning g.K.WrittenKind.writing c.args.key c.args.cs.now c.args.n g.met.K.WrittenKind.writes inv (omega arith);
     }
 
-pub loop-i-preserved : goal.loop-i-preserved
-loop-i-preserved g c =
-    underway_more g.K.Kind.meaning g.K.WrittenKind.writing c.args.key c.args.cs.now c.args.n c.loop-i.invariant (omega arith)
-    (c.loop-i.m / 2) c.play_round-at.result c.play_round-at.new.elements c.play_round-at.new.numbers c.play_round-at.new.out
+pub loop-c-preserved : goal.loop-c-preserved
+loop-c-preserved g c =
+    underway_more g.K.Kind.meaning g.K.WrittenKind.writing c.args.key c.args.cs.now c.args.n c.loop-c.invariant (omega arith)
+    (c.loop-c.m / 2) c.play_round-at.result c.play_round-at.new.elements c.play_round-at.new.numbers c.play_round-at.new.out
     refl c.play_round-at.ensures.checked c.play_round-at.ensures.folded c.play_round-at.ensures.laid
 
 pub put_last-requires : goal.put_last-requires
 put_last-requires g c =
-    last_room g.K.Kind.meaning g.K.WrittenKind.writing c.args.key c.args.cs.now c.args.n c.loop-i.invariant (omega arith)
+    last_room g.K.Kind.meaning g.K.WrittenKind.writing c.args.key c.args.cs.now c.args.n c.loop-c.invariant (omega arith)
 
 pub returns : goal.returns
 returns g c =
-    underway_end g.K.Kind.meaning g.K.WrittenKind.writing c.args.key c.args.cs.now c.args.n c.loop-i.invariant (omega arith) (omega arith)
+    underway_end g.K.Kind.meaning g.K.WrittenKind.writing c.args.key c.args.cs.now c.args.n c.loop-c.invariant (omega arith) (omega arith)
     c.put_last.result c.put_last.new.out c.put_last.ensures

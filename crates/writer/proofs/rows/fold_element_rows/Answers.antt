@@ -4,7 +4,8 @@ use Rattle.kind.specs.Kinds.{elements, AllElements}
 use Rattle.kind.specs.Sides.{fold_of}
 use Rattle.kind.specs.declared.side.Side.TheVariants.{OfG, OfH}
 use Rattle.writer.proofs.Folded.{fold_all, fold-elements}
-use Rattle.writer.proofs.ListParts.{elements-take, elements-drop, all_take, all_drop, all_append}
+use Rattle.kind.proofs.Listed.{elements-take, elements-drop, all_take, all_drop}
+use Rattle.writer.proofs.ListParts.{all_append}
 use Rattle.writer.proofs.TwoRows.{after_first, first_lent, second_lent, front_is, back_is}
 use Rattle.writer.proofs.rows.fold_element_rows.Goals as goal
 

@@ -1,14 +1,13 @@
-use Rattle.std.proofs.Common.{ℕ, ◌+◌, List, length, take, drop, sym, ap, ◌∙◌, subst, arith, length-drop}
+use Rattle.std.proofs.Common.{ℕ, ◌+◌, List, length, take, drop, sym, ap, ◌∙◌, arith, length-drop}
 use Rattle.std.proofs.lemmas.List.{length-take-le}
-use Rattle.kind.specs.Kinds.{elements, AllElements}
+use Rattle.kind.specs.Kinds.{elements}
 use Rattle.ledger.specs.Rules.{message_of}
-use Rattle.writer.proofs.ListParts.{elements-take, elements-drop, all_take, all_drop}
+use Rattle.kind.proofs.Listed.{elements-take, elements-drop}
 use Rattle.writer.proofs.rows.message_of_rows.Goals as goal
 
 pub message_across-requires : goal.message_across-requires
 message_across-requires g c =
-    let s = g.K.Kind.meaning in
-    let es = c.args.elements.now in
+    let es = c.args.elements.now.entries.now in
     let ns : List ℕ = c.args.numbers.now in
     let n : ℕ = c.args.n in
     let j : ℕ = c.args.m + c.args.m in
@@ -22,9 +21,7 @@ message_across-requires g c =
     let long_l = ap length l ∙ length-take-le j ns (omega (arith, c.requires.numbers)) in
     let long_r = ap length r ∙ length-take-le j (drop n ns) (omega (arith, c.requires.numbers, length-drop n ns)) in
     record {
-      ready = record {
-        all_g = subst (AllElements s) (sym gs) (all_take s j es c.requires.checked);
-        all_h = subst (AllElements s) (sym hs) (all_take s j (drop n es) (all_drop s n es c.requires.checked));
+      long = record {
         long_h = long_h ∙ sym long_g;
         long_l = long_l ∙ sym long_g;
         long_r = long_r ∙ sym long_g;
@@ -35,7 +32,7 @@ message_across-requires g c =
 pub returns : goal.returns
 returns g c =
     let s = g.K.Kind.meaning in
-    let es = c.args.elements.now in
+    let es = c.args.elements.now.entries.now in
     let n : ℕ = c.args.n in
     let j : ℕ = c.args.m + c.args.m in
     let gs = ap (elements s) c.cut-3.ensures.front ∙ elements-take s j es in
