@@ -9,8 +9,7 @@ ghost use Rattle.station.specs.View.{ledger_of, last_of, next_answer, opening_an
 
 use crate::call::{Call, LastPair};
 use crate::state::Station;
-use crate::state::calls::spend;
-use crate::tokens::{Back, Closing, Heard, Held, Next, Waiting};
+use crate::tokens::{Back, Closing, Heard, Held, Next, Token, Waiting};
 use kind::entries::clear_entries;
 use kind::kind::Kind;
 use ledger::fault::StationFault;
@@ -92,7 +91,7 @@ fn of_withdrawal(r: Result<(), Back<Held>>) -> Answer
     match r {
         Ok(()) => Answer::Withdrawn,
         Err(Back { token, fault }) => {
-            spend(token);
+            token.spend();
             Answer::Refused(fault)
         }
     }
