@@ -69,6 +69,7 @@ pub fn perform<K: Kind, M: Method>(
         Call::Open(k, z1, z2) => station
             .open(*k, *z1, *z2)
             .map_or_else(Answer::from, Answer::from),
+        // `*m` is refused: a struct of a type parameter's values is not copied whole from behind a reference.
         Call::Message(Sort::Waiting, t, m) => station
             .message(Waiting { numbers: *t }, Message { ..*m })
             .map_or_else(Answer::from, Answer::from),
@@ -104,6 +105,7 @@ pub fn replay<K: Kind, M: Method>(
 {
     let mut station = Station::new(number, method);
     let n = calls.len().min(out.len());
+    // Lines are written by index: after `iter_mut` a proof knows how many there are, and not what they say.
     for (i, call) in calls[..n].iter().enumerate() {
         let answer = perform(&mut station, call, elements, numbers);
         out[i] = Line {
