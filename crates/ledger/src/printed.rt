@@ -1,9 +1,12 @@
 // How a station's values are printed.
 ghost use Rattle.std.specs.Prelude.{Some};
-ghost use Rattle.ledger.specs.Printed.{sort_text, numbers_text, page_text, answer_text, line_text};
+ghost use Rattle.ledger.specs.Faults.{station_refusal};
+ghost use Rattle.ledger.specs.Printed.{sort_text, numbers_text, page_text, refusal_text, answer_text, line_text};
 
+use crate::fault::StationFault;
 use crate::parts::{Answer, Line, Numbers, Page, Sort};
 use kind::fault::Refusal;
+use std::error::Error;
 use std::fmt;
 
 impl fmt::Display for Sort {
@@ -45,6 +48,21 @@ impl fmt::Display for Page {
     }
 }
 
+impl fmt::Display for StationFault {
+    ghost output = { λ why. Some (refusal_text (station_refusal why)) };
+
+    fn fmt<W: fmt::Write>(&self, f: &mut fmt::Formatter<W>) -> fmt::Result {
+        let Refusal {
+            number,
+            layer,
+            place,
+        } = self.refusal();
+        write!(f, "{number} {layer} {place}")
+    }
+}
+
+impl Error for StationFault {}
+
 impl fmt::Display for Answer {
     ghost output = { λ answer. Some (answer_text answer) };
 
@@ -55,14 +73,7 @@ impl fmt::Display for Answer {
             Answer::Verdict(false) => f.write_str("fail"),
             Answer::Withdrawn => f.write_str("withdrawn"),
             Answer::Turned(page) => write!(f, "turned {page}"),
-            Answer::Refused(fault) => {
-                let Refusal {
-                    number,
-                    layer,
-                    place,
-                } = fault.refusal();
-                write!(f, "refused {number} {layer} {place}")
-            }
+            Answer::Refused(fault) => write!(f, "refused {fault}"),
         }
     }
 }
