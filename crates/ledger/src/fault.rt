@@ -1,6 +1,7 @@
 // The station's faults, and how it takes up the method's.
 ghost use Rattle.std.specs.Prelude.{◌≡◌};
 ghost use Rattle.ledger.specs.Faults.{station_refusal};
+ghost use Rattle.ledger.specs.declared.fault.StationFault.TheVariants.{Method};
 
 use kind::fault::{Layer, Refusal};
 use method::fault::MethodFault;
@@ -26,34 +27,27 @@ impl StationFault {
     pub fn refusal(self) -> Refusal
         ensures { result ≡ station_refusal self }
     {
-        let layer = Layer::Station;
-        match self {
-            StationFault::NotCurrent => Refusal {
-                number: 1,
-                layer,
-                place: 0,
-            },
-            StationFault::CaseOpen => Refusal {
-                number: 2,
-                layer,
-                place: 0,
-            },
-            StationFault::TooManyRounds => Refusal {
-                number: 3,
-                layer,
-                place: 0,
-            },
-            StationFault::PageFull => Refusal {
-                number: 4,
-                layer,
-                place: 0,
-            },
-            StationFault::NotAChallenge => Refusal {
-                number: 13,
-                layer,
-                place: 0,
-            },
-            StationFault::Method(fault, _) => fault.refusal(),
+        let number = match self {
+            StationFault::NotCurrent => 1,
+            StationFault::CaseOpen => 2,
+            StationFault::TooManyRounds => 3,
+            StationFault::PageFull => 4,
+            StationFault::NotAChallenge => 13,
+            StationFault::Method(fault, _) => return fault.refusal(),
+        };
+        Refusal {
+            number,
+            layer: Layer::Station,
+            place: 0,
         }
+    }
+}
+
+// The method's refusal of a last pair; the station adds the place 0.
+impl From<MethodFault> for StationFault {
+    ghost from_gives = { λ fault why. why ≡ Method fault 0 };
+
+    fn from(fault: MethodFault) -> StationFault {
+        StationFault::Method(fault, 0)
     }
 }

@@ -1,8 +1,11 @@
 // The plain data of a station.
+ghost use Rattle.std.specs.Prelude.{◌≡◌};
+ghost use Rattle.ledger.specs.declared.parts.Answer.TheVariants.{Refused};
+
 use crate::fault::StationFault;
 
 // The four counts of a page.
-#[derive(Clone, Copy, PartialEq, Eq, Debug)]
+#[derive(Clone, Copy, PartialEq, Eq, Debug, Default)]
 pub struct Page {
     pub opened: u32,
     pub passed: u32,
@@ -51,6 +54,14 @@ pub enum Answer {
     Withdrawn,
     Turned(Page),
     Refused(StationFault),
+}
+
+impl From<StationFault> for Answer {
+    ghost from_gives = { λ why answer. answer ≡ Refused why };
+
+    fn from(why: StationFault) -> Answer {
+        Answer::Refused(why)
+    }
 }
 
 // What a call answered, and the page after it.

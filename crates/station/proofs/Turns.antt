@@ -1,49 +1,19 @@
 -- The turns of a replay. Assumes nothing.
-use Rattle.std.proofs.Common.{◌≡◌, ℕ, ◌+◌, ◌<◌, ◌≤◌, Bool, true, false, cond, not, T, leb, List, [], ◌∷◌, ◌++◌, length, get_or, take, drop, replicate, Ok, Err, Result, sym, refl, ap, ◌∙◌, subst, arith, leb→le}
-use lib.Dec.{nleb→lt}
-use Rattle.std.proofs.lemmas.List.{take_all, drop_all, length-map, length-append, take-append-drop, map_more, take-map}
+use Rattle.std.proofs.Common.{◌≡◌, ℕ, ◌+◌, ◌<◌, List, [], ◌∷◌, ◌++◌, length, get_or, take, drop, min, sym, refl, ap, ◌∙◌, subst}
+use Rattle.std.proofs.Math.Nat.{min_comm}
+use Rattle.std.proofs.lemmas.List.{take_min, drop_min, length-map, length-append, take-append-drop, map_more, take-map}
 use Rattle.kind.specs.Kinds.{Meaning, Lawful}
 use Rattle.ledger.specs.Ledger.{Ledger, Call, step, run, final}
 use Rattle.ledger.specs.Promise.{Promise}
 use Rattle.ledger.specs.declared.parts.Line.{Line}
 use Rattle.ledger.proofs.Walk.{promised}
-use Rattle.ledger.specs.declared.parts.Answer.{Answer}
-use Rattle.ledger.specs.declared.parts.Answer.TheVariants.{Token, Verdict, Withdrawn, Turned, Refused}
-use Rattle.method.specs.Meaning.{cleared}
-use Rattle.station.specs.Calls.{least, call_of, calls_of, verdict_is, after_verdict}
-use Rattle.station.specs.View.{last_answer}
-use Rattle.station.specs.declared.tokens.Back.{Back}
-use Rattle.station.specs.declared.tokens.Closing.{Closing}
+use Rattle.station.specs.Calls.{call_of, calls_of}
 use Rattle.station.specs.declared.call.Call.{Call as Data}
 
--- a property of the lesser of two, by cases
-by_least : (P : ℕ → Type 0) (a b : ℕ) → (a ≤ b → P a) → (b ≤ a → P b) → P (least a b)
-by_least P a b f g = go (leb a b) refl
-  where
-    go : (c : Bool) → leb a b ≡ c → P (cond c a b)
-    go true e = f (leb→le a b (subst T (sym e) tt))
-    go false e = g (below (nleb→lt a b (subst (λ (d : Bool). T (not d)) (sym e) tt)))
-      where
-        below : b < a → b ≤ a
-        below lt = omega arith
-
--- the first of a list, as many as the lesser of its length and m
-take_least : {X : Type 0} (xs : List X) (m : ℕ) → take (least (length xs) m) xs ≡ take m xs
-take_least xs m =
-    by_least (λ n. take n xs ≡ take m xs) (length xs) m
-    (λ le. take_all (length xs) xs (omega arith) ∙ sym (take_all m xs le)) (λ _. refl)
-
-take_least_right : {X : Type 0} (xs : List X) (m : ℕ) → take (least m (length xs)) xs ≡ take m xs
-take_least_right xs m =
-    by_least (λ n. take n xs ≡ take m xs) m (length xs)
-    (λ _. refl) (λ le. take_all (length xs) xs (omega arith) ∙ sym (take_all m xs le))
-
 -- what is behind the lesser of m and the length is as it was, so what is behind m is
-pub drop_least : {X : Type 0} (xs ys : List X) (m : ℕ) → length ys ≡ length xs
-    → drop (least m (length xs)) ys ≡ drop (least m (length xs)) xs → drop m ys ≡ drop m xs
-drop_least xs ys m same =
-    by_least (λ n. drop n ys ≡ drop n xs → drop m ys ≡ drop m xs) m (length xs)
-    (λ _ h. h) (λ le h. drop_all m ys (omega arith) ∙ sym (drop_all m xs le))
+pub drop_less : {X : Type 0} (xs ys : List X) (m : ℕ) → length ys ≡ length xs
+    → drop (min m (length xs)) ys ≡ drop (min m (length xs)) xs → drop m ys ≡ drop m xs
+drop_less xs ys m same h = sym (drop_min m ys) ∙ ap (λ n. drop (min m n) ys) same ∙ h ∙ drop_min m xs
 
 module _ {M E : Type 0} (kind : Meaning M E) where
   abbrev line_of : Ledger M → Call M E → Line
@@ -90,15 +60,15 @@ module _ {M E : Type 0} (kind : Meaning M E) (start : Ledger M) where
 
   -- all that are due are done; m is the length of the list of lines
   pub done : Lawful kind → (u v : ℕ) (calls : List (Data M E)) (out : List Line) (m n i : ℕ) (l : Ledger M)
-      → length out ≡ m → n ≡ least (length calls) m → i ≡ n → Sofar kind start (calls_of u v calls) i (take i out) l
+      → length out ≡ m → n ≡ min (length calls) m → i ≡ n → Sofar kind start (calls_of u v calls) i (take i out) l
       → Promise kind start (take m (calls_of u v calls)) (take (length calls) out)
   done laws u v calls out m n i l long due all h =
       let xs = calls_of u v calls in
-      let at : i ≡ least (length calls) m = all ∙ due in
+      let at : i ≡ min (length calls) m = all ∙ due in
       let lines : take i out ≡ take (length calls) out =
-      ap (λ (k : ℕ). take k out) (at ∙ ap (least (length calls)) (sym long)) ∙ take_least_right out (length calls) in
+      ap (λ (k : ℕ). take k out) (at ∙ ap (min (length calls)) (sym long)) ∙ take_min (length calls) out in
       let done_calls : take i xs ≡ take m xs =
-      ap (λ (k : ℕ). take k xs) at ∙ ap (λ (k : ℕ). take (least k m) xs) (sym (length-map calls (call_of u v))) ∙ take_least xs m in
+      ap (λ (k : ℕ). take k xs) at ∙ ap (λ (k : ℕ). take (min k m) xs) (sym (length-map calls (call_of u v))) ∙ ap (λ (k : ℕ). take k xs) (min_comm (length xs) m) ∙ take_min m xs in
       promised laws start (take m xs) (take (length calls) out) (sym lines ∙ h.written ∙ ap (run kind start) done_calls)
 
   -- the same promise, for work lists as long
@@ -112,26 +82,6 @@ module _ {M E : Type 0} (kind : Meaning M E) (start : Ledger M) where
   pub alike : (xs : List (Call M E)) (m n : ℕ) (ys zs : List Line) → m ≡ n
       → Promise kind start (take m xs) ys → Promise kind start (take n xs) zs → ys ≡ zs
   alike xs m n ys zs same p q = p.ledger ∙ ap (λ (d : ℕ). run kind start (take d xs)) same ∙ sym q.ledger
-
--- a work list after an answer
-pub by_verdict : {A : Type 0} (a : Answer) → verdict_is a ≡ true → (x : A) (xs : List A) → replicate (length xs) x ≡ after_verdict a x xs
-by_verdict (Token sort t) h x xs = cc
-by_verdict (Verdict b) h x xs = refl
-by_verdict Withdrawn h x xs = cc
-by_verdict (Turned p) h x xs = cc
-by_verdict (Refused fault) h x xs = cc
-
-pub by_other : {A : Type 0} (a : Answer) → verdict_is a ≡ false → (x : A) (xs : List A) → xs ≡ after_verdict a x xs
-by_other (Token sort t) h x xs = refl
-by_other (Verdict b) h x xs = cc
-by_other Withdrawn h x xs = refl
-by_other (Turned p) h x xs = refl
-by_other (Refused fault) h x xs = refl
-
--- a refused last pair alters nothing
-pub untouched : {A : Type 0} (r : Result Bool (Back Closing)) → verdict_is (last_answer r) ≡ false → (n : ℕ) (x : A) (xs : List A) → cleared r n x xs ≡ xs
-untouched (Ok b) h n x xs = cc
-untouched (Err b) h n x xs = refl
 
 -- the first n of a list were lent: as many are there now
 pub part_long : {A : Type 0} (xs ys : List A) (n : ℕ) → length ys ≡ length (take n xs) → length (ys ++ drop n xs) ≡ length xs

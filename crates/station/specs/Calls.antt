@@ -1,5 +1,5 @@
 -- Calls as data, as the ledger's calls. Assumes nothing.
-use Rattle.std.specs.Prelude.{ℕ, Bool, true, false, cond, List, map, length, replicate, nat_le}
+use Rattle.std.specs.Prelude.{ℕ, List, map, min, length, replicate}
 use Rattle.kind.specs.Pairs.{pair_of}
 use Rattle.ledger.specs.Ledger as ledger
 use Rattle.ledger.specs.declared.parts.Answer.{Answer}
@@ -8,17 +8,13 @@ use Rattle.station.specs.View.{last_of}
 use Rattle.station.specs.declared.call.Call.{Call}
 use Rattle.station.specs.declared.call.Call.TheVariants.{Open, Message, Draw, Last, Withdraw, Turn}
 
--- the lesser of two
-abbrev pub least : ℕ → ℕ → ℕ
-least a b = cond (nat_le a b) a b
-
 -- elements, numbers: how many the work lists of the replay hold
 abbrev pub call_of : {M E : Type 0} → ℕ → ℕ → Call M E → ledger.Call M E
 call_of elements numbers (Open k z1 z2) = ledger.opening k (pair_of z1 z2)
 call_of elements numbers (Message sort t m) = ledger.message sort t m
 call_of elements numbers (Draw sort t c) = ledger.draw sort t c
 call_of elements numbers (Last sort t p) =
-    ledger.last_pair sort t (last_of p.g.now p.h.now p.key p.a p.b (least p.elements elements) (least p.numbers numbers))
+    ledger.last_pair sort t (last_of p.g.now p.h.now p.key p.a p.b (min p.elements elements) (min p.numbers numbers))
 call_of elements numbers (Withdraw sort t) = ledger.withdrawal sort t
 call_of elements numbers Turn = ledger.page_turn
 
@@ -29,13 +25,6 @@ after_verdict (Verdict b) x xs = replicate (length xs) x
 after_verdict Withdrawn x xs = xs
 after_verdict (Turned p) x xs = xs
 after_verdict (Refused fault) x xs = xs
-
-abbrev pub verdict_is : Answer → Bool
-verdict_is (Token sort t) = false
-verdict_is (Verdict b) = true
-verdict_is Withdrawn = false
-verdict_is (Turned p) = false
-verdict_is (Refused fault) = false
 
 abbrev pub work_after : {M E A : Type 0} → Call M E → Answer → A → List A → List A
 work_after (Open k z1 z2) answer x xs = xs

@@ -1,7 +1,7 @@
 -- The ledger that a station stands for, and the answer that each call's result stands for. Assumes nothing.
-use Rattle.std.specs.Prelude.{ℕ, Bool, List, Some, None, Ok, Err, Option, Result}
+use Rattle.std.specs.Prelude.{ℕ, Bool, cond, ◌&&◌, List, Some, None, Ok, Err, Option, Result}
 use Rattle.method.specs.Tables.{challenges}
-use Rattle.ledger.specs.Ledger.{Ledger}
+use Rattle.ledger.specs.Ledger.{Ledger, of_sort, same_numbers, numbers_at}
 use Rattle.ledger.specs.Ledger as ledger
 use Rattle.ledger.specs.declared.fault.StationFault.{StationFault}
 use Rattle.ledger.specs.declared.parts.Answer.{Answer}
@@ -31,6 +31,12 @@ running_of (Some c) = Some (case_of c)
 -- what a station has, but its method
 abbrev pub ledger_of : {M X E : Type 0} {g : _} → Station M X E g → Ledger M
 ledger_of s = record { number = s.number; page = s.page; running = running_of s.case }
+
+-- the open case, where its current token is of this sort and says these numbers
+abbrev pub current_case : {M : Type 0} → ℕ → Page → Sort → Numbers → Option (Case M) → Option (Case M)
+current_case number page sort t None = None
+current_case number page sort t (Some c) =
+    cond (of_sort c.stage sort && same_numbers t (numbers_at number page c.rounds)) (Some c) None
 
 -- what a last pair brings; elements and numbers are the lengths of the work lists
 abbrev pub last_of : {M E : Type 0} → List E → List E → M → ℕ → ℕ → ℕ → ℕ → ledger.Last M E

@@ -1,199 +1,54 @@
 // Replay: any list of calls on a new station, with every answer and the page after it.
-ghost use Rattle.std.specs.Prelude.{◌≡◌, ◌≤◌, length, take, drop, replicate};
+ghost use Rattle.std.specs.Prelude.{◌≡◌, ◌≤◌, min, length, take, drop, replicate};
 ghost use Rattle.kind.specs.Kinds.{unit_entry};
-ghost use Rattle.ledger.specs.Ledger.{fresh, step, message, draw, last_pair};
+ghost use Rattle.ledger.specs.Ledger.{fresh, step, last_pair};
 ghost use Rattle.ledger.specs.Promise.{Promise};
-ghost use Rattle.ledger.specs.declared.parts.Answer.TheVariants.{Refused};
-ghost use Rattle.station.specs.Calls.{least as least_of, call_of, calls_of, verdict_is, after_verdict, work_after};
-ghost use Rattle.station.specs.View.{ledger_of, last_of, next_answer, opening_answer, message_answer, draw_answer, last_answer, withdrawal_answer, turn_answer, held_sort, held_numbers};
+ghost use Rattle.ledger.specs.declared.parts.Sort.TheVariants as sort;
+ghost use Rattle.station.specs.Calls.{call_of, calls_of, after_verdict, work_after};
+ghost use Rattle.station.specs.View.{ledger_of, last_of};
 
 use crate::call::{Call, LastPair};
 use crate::state::Station;
-use crate::state::calls::spend;
-use crate::tokens::{Back, Closing, Heard, Held, Next, Waiting};
+use crate::tokens::{Closing, Heard, Held, Waiting};
 use kind::entries::clear_entries;
 use kind::kind::Kind;
 use ledger::fault::StationFault;
-use ledger::parts::{Answer, Line, Message, Numbers, Page, Sort};
+use ledger::parts::{Answer, Line, Message, Numbers, Sort};
 use method::last_pair::clear_numbers;
 use method::method::Method;
 
-fn least(a: usize, b: usize) -> usize
-    ensures value { result ≡ least_of a b }
-    ensures left { result ≤ a }
-    ensures right { result ≤ b }
-{
-    if a <= b { a } else { b }
-}
-
-fn of_next(n: Next) -> Answer
-    ensures { result ≡ next_answer n }
-{
-    match n {
-        Next::Waiting(Waiting { numbers }) => Answer::Token(Sort::Waiting, numbers),
-        Next::Closing(Closing { numbers }) => Answer::Token(Sort::Closing, numbers),
-    }
-}
-
-fn of_opening(r: Result<Next, StationFault>) -> Answer
-    ensures { result ≡ opening_answer r }
-{
-    match r {
-        Ok(next) => of_next(next),
-        Err(fault) => Answer::Refused(fault),
-    }
-}
-
-fn of_message(r: Result<Heard, Back<Waiting>>) -> Answer
-    ensures { result ≡ message_answer r }
-{
-    match r {
-        Ok(Heard { numbers }) => Answer::Token(Sort::Heard, numbers),
-        Err(
-            Back {
-                token: Waiting { numbers: _ },
-                fault,
-            },
-        ) => Answer::Refused(fault),
-    }
-}
-
-fn of_draw(r: Result<Next, Back<Heard>>) -> Answer
-    ensures { result ≡ draw_answer r }
-{
-    match r {
-        Ok(next) => of_next(next),
-        Err(
-            Back {
-                token: Heard { numbers: _ },
-                fault,
-            },
-        ) => Answer::Refused(fault),
-    }
-}
-
-fn of_last(r: Result<bool, Back<Closing>>) -> Answer
-    ensures { result ≡ last_answer r }
-{
-    match r {
-        Ok(passes) => Answer::Verdict(passes),
-        Err(
-            Back {
-                token: Closing { numbers: _ },
-                fault,
-            },
-        ) => Answer::Refused(fault),
-    }
-}
-
-fn of_withdrawal(r: Result<(), Back<Held>>) -> Answer
-    ensures { result ≡ withdrawal_answer r }
-{
-    match r {
-        Ok(()) => Answer::Withdrawn,
-        Err(Back { token, fault }) => {
-            spend(token);
-            Answer::Refused(fault)
-        }
-    }
-}
-
-fn of_turn(r: Result<Page, StationFault>) -> Answer
-    ensures { result ≡ turn_answer r }
-{
-    match r {
-        Ok(page) => Answer::Turned(page),
-        Err(fault) => Answer::Refused(fault),
-    }
-}
-
-fn is_verdict(answer: Answer) -> bool
-    ensures { result ≡ verdict_is answer }
-{
-    match answer {
-        Answer::Verdict(_) => true,
-        _ => false,
-    }
-}
-
-fn held(sort: Sort, numbers: Numbers) -> Held
-    ensures sort { held_sort result ≡ sort }
-    ensures numbers { held_numbers result ≡ numbers }
-{
-    match sort {
-        Sort::Waiting => Held::Waiting(Waiting { numbers }),
-        Sort::Heard => Held::Heard(Heard { numbers }),
-        Sort::Closing => Held::Closing(Closing { numbers }),
-    }
-}
-
-fn perform_message<K: Kind, M: Method>(
-    station: &mut Station<K, M>,
-    sort: Sort,
-    numbers: Numbers,
-    m: Message<K>,
-) -> Answer
-    ensures answer { result ≡ (step K.Kind.meaning (ledger_of station.old) (message sort numbers m)).answer }
-    ensures ledger { ledger_of station.new ≡ (step K.Kind.meaning (ledger_of station.old) (message sort numbers m)).ledger }
-    ensures kept { station.new.method ≡ station.old.method }
-{
-    match sort {
-        Sort::Waiting => of_message(station.message(Waiting { numbers }, m)),
-        _ => Answer::Refused(StationFault::NotCurrent),
-    }
-}
-
-fn perform_draw<K: Kind, M: Method>(
-    station: &mut Station<K, M>,
-    sort: Sort,
-    numbers: Numbers,
-    c: u32,
-) -> Answer
-    ensures answer { result ≡ (step K.Kind.meaning (ledger_of station.old) (draw sort numbers c)).answer }
-    ensures ledger { ledger_of station.new ≡ (step K.Kind.meaning (ledger_of station.old) (draw sort numbers c)).ledger }
-    ensures kept { station.new.method ≡ station.old.method }
-{
-    match sort {
-        Sort::Heard => of_draw(station.draw(Heard { numbers }, c)),
-        _ => Answer::Refused(StationFault::NotCurrent),
-    }
-}
-
+// A last pair, lent as many elements and numbers of the work lists as it asks for.
 fn perform_last<K: Kind, M: Method>(
     station: &mut Station<K, M>,
-    sort: Sort,
     numbers: Numbers,
-    p: LastPair<K, K::Entry>,
+    p: &LastPair<K, K::Entry>,
     work_elements: &mut [K::Entry],
     work_numbers: &mut [u32],
 ) -> Answer
-    ensures answer { result ≡ (step K.Kind.meaning (ledger_of station.old) (last_pair sort numbers (last_of p.entry.g.now p.entry.h.now p.entry.key p.entry.a p.entry.b (least_of p.entry.elements (length work_elements.old)) (least_of p.entry.numbers (length work_numbers.old))))).answer }
-    ensures ledger { ledger_of station.new ≡ (step K.Kind.meaning (ledger_of station.old) (last_pair sort numbers (last_of p.entry.g.now p.entry.h.now p.entry.key p.entry.a p.entry.b (least_of p.entry.elements (length work_elements.old)) (least_of p.entry.numbers (length work_numbers.old))))).ledger }
+    ensures answer { result ≡ (step K.Kind.meaning (ledger_of station.old) (last_pair sort.Closing numbers (last_of p.now.g.now p.now.h.now p.now.key p.now.a p.now.b (min p.now.elements (length work_elements.old)) (min p.now.numbers (length work_numbers.old))))).answer }
+    ensures ledger { ledger_of station.new ≡ (step K.Kind.meaning (ledger_of station.old) (last_pair sort.Closing numbers (last_of p.now.g.now p.now.h.now p.now.key p.now.a p.now.b (min p.now.elements (length work_elements.old)) (min p.now.numbers (length work_numbers.old))))).ledger }
     ensures kept { station.new.method ≡ station.old.method }
     ensures elements { work_elements.new ≡ after_verdict result (unit_entry K.Kind.meaning) work_elements.old }
     ensures numbers { work_numbers.new ≡ after_verdict result 0 work_numbers.old }
 {
-    match sort {
-        Sort::Closing => {
-            let elements = least(p.elements, work_elements.len());
-            let scalars = least(p.numbers, work_numbers.len());
-            let answer = of_last(station.last(
-                Closing { numbers },
-                p.a,
-                p.b,
-                p.g,
-                p.h,
-                p.key,
-                &mut work_elements[0..elements],
-                &mut work_numbers[0..scalars],
-            ));
-            if is_verdict(answer) {
-                clear_entries::<K>(work_elements);
-                clear_numbers(work_numbers);
-            }
-            answer
+    let elements = p.elements.min(work_elements.len());
+    let scalars = p.numbers.min(work_numbers.len());
+    match station.last(
+        Closing { numbers },
+        p.a,
+        p.b,
+        p.g,
+        p.h,
+        p.key,
+        &mut work_elements[..elements],
+        &mut work_numbers[..scalars],
+    ) {
+        Ok(passes) => {
+            clear_entries::<K>(work_elements);
+            clear_numbers(work_numbers);
+            Answer::Verdict(passes)
         }
-        _ => Answer::Refused(StationFault::NotCurrent),
+        Err(back) => back.into(),
     }
 }
 
@@ -211,33 +66,24 @@ pub fn perform<K: Kind, M: Method>(
     ensures numbers { numbers.new ≡ work_after call.now result 0 numbers.old }
 {
     match call {
-        Call::Open(k, z1, z2) => of_opening(station.open(*k, *z1, *z2)),
-        Call::Message(sort, t, m) => perform_message(
-            station,
-            *sort,
-            *t,
-            Message {
-                l1: m.l1,
-                l2: m.l2,
-                r1: m.r1,
-                r2: m.r2,
-            },
-        ),
-        Call::Draw(sort, t, c) => perform_draw(station, *sort, *t, *c),
-        Call::Last(sort, t, p) => {
-            let p = LastPair {
-                g: p.g,
-                h: p.h,
-                key: p.key,
-                a: p.a,
-                b: p.b,
-                elements: p.elements,
-                numbers: p.numbers,
-            };
-            perform_last(station, *sort, *t, p, elements, numbers)
+        Call::Open(k, z1, z2) => station
+            .open(*k, *z1, *z2)
+            .map_or_else(Answer::from, Answer::from),
+        // `*m` is refused: a struct of a type parameter's values is not copied whole from behind a reference.
+        Call::Message(Sort::Waiting, t, m) => station
+            .message(Waiting { numbers: *t }, Message { ..*m })
+            .map_or_else(Answer::from, Answer::from),
+        Call::Draw(Sort::Heard, t, c) => station
+            .draw(Heard { numbers: *t }, *c)
+            .map_or_else(Answer::from, Answer::from),
+        Call::Last(Sort::Closing, t, p) => perform_last(station, *t, p, elements, numbers),
+        Call::Message(..) | Call::Draw(..) | Call::Last(..) => {
+            Answer::Refused(StationFault::NotCurrent)
         }
-        Call::Withdraw(sort, t) => of_withdrawal(station.withdraw(held(*sort, *t))),
-        Call::Turn => of_turn(station.turn()),
+        Call::Withdraw(sort, t) => station
+            .withdraw(Held::new(*sort, *t))
+            .map_or_else(Answer::from, |()| Answer::Withdrawn),
+        Call::Turn => station.turn().map_or_else(Answer::from, Answer::Turned),
     }
 }
 
@@ -258,9 +104,10 @@ pub fn replay<K: Kind, M: Method>(
     ensures method { result ≡ method }
 {
     let mut station = Station::new(number, method);
-    let n = least(calls.len(), out.len());
-    for i in 0..n {
-        let answer = perform(&mut station, &calls[i], elements, numbers);
+    let n = calls.len().min(out.len());
+    // Lines are written by index: after `iter_mut` a proof knows how many there are, and not what they say.
+    for (i, call) in calls[..n].iter().enumerate() {
+        let answer = perform(&mut station, call, elements, numbers);
         out[i] = Line {
             answer,
             page: station.page(),

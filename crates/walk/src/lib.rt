@@ -2,89 +2,95 @@
 #![tactic(auto)]
 
 use kind::kind::Kind;
+use kind::pair::Pair;
 use ledger::fault::StationFault;
 use ledger::parts::Message;
 use method::method::Method;
 use station::state::Station;
-use station::tokens::{Back, Closing, Heard, Held, Next, Waiting};
+use station::tokens::{Back, Closing, Held, Next, Token, Waiting};
 
-// Withdraws the case, and says why; a token that is refused even then is taken apart.
-fn give_up<K: Kind, M: Method>(
-    station: &mut Station<K, M>,
-    t: Held,
-    fault: StationFault,
-) -> Result<bool, StationFault> {
-    match station.withdraw(t) {
-        Ok(()) => Err(fault),
-        Err(
-            Back {
-                token: Held::Waiting(Waiting { numbers: _ }),
-                fault,
-            },
-        ) => Err(fault),
-        Err(
-            Back {
-                token: Held::Heard(Heard { numbers: _ }),
-                fault,
-            },
-        ) => Err(fault),
-        Err(
-            Back {
-                token: Held::Closing(Closing { numbers: _ }),
-                fault,
-            },
-        ) => Err(fault),
+// A last pair a, b, and what its verdict is on.
+#[derive(Clone, Copy)]
+pub struct Last<'a, K, E> {
+    pub a: u32,
+    pub b: u32,
+    pub g: &'a [E],
+    pub h: &'a [E],
+    pub key: K,
+}
+
+// The token for a message, where that is what the case waits for.
+fn waiting(next: Next) -> Result<Waiting, Back<Held>> {
+    match next {
+        Next::Waiting(t) => Ok(t),
+        Next::Closing(t) => Err(Back {
+            token: Held::Closing(t),
+            fault: StationFault::NotCurrent,
+        }),
     }
 }
 
-// A case of two rounds, from its opening to its verdict. Where a call refuses, the case is withdrawn.
+// The token for the last pair, where that is what the case waits for.
+fn closing(next: Next) -> Result<Closing, Back<Held>> {
+    match next {
+        Next::Closing(t) => Ok(t),
+        Next::Waiting(t) => Err(Back {
+            token: Held::Waiting(t),
+            fault: StationFault::NotCurrent,
+        }),
+    }
+}
+
+// Two rounds, each a message and its challenge, and the last pair. A refusal hands the token back.
+fn play<K: Kind, M: Method>(
+    station: &mut Station<K, M>,
+    opened: Next,
+    rounds: [(Message<K>, u32); 2],
+    last: Last<K, K::Entry>,
+    elements: &mut [K::Entry],
+    numbers: &mut [u32],
+) -> Result<bool, Back<Held>> {
+    let [first, second] = rounds;
+    let heard = station.message(waiting(opened)?, first.0)?;
+    let waiting_again = waiting(station.draw(heard, first.1)?)?;
+    let heard_again = station.message(waiting_again, second.0)?;
+    let closing = closing(station.draw(heard_again, second.1)?)?;
+    let Last { a, b, g, h, key } = last;
+    let passes = station.last(closing, a, b, g, h, key, elements, numbers)?;
+    Ok(passes)
+}
+
+// Withdraws the case, and says why; a token that is refused even then is taken apart.
+fn give_up<K: Kind, M: Method>(station: &mut Station<K, M>, back: Back<Held>) -> StationFault {
+    let Back { token, fault } = back;
+    match station.withdraw(token) {
+        Ok(()) => fault,
+        Err(Back { token, fault }) => {
+            token.spend();
+            fault
+        }
+    }
+}
+
+// A case of two rounds for the commitments z, from its opening to its verdict. Where a call refuses, the case is withdrawn.
 pub fn two_rounds<K: Kind, M: Method>(
     station: &mut Station<K, M>,
-    z1: K,
-    z2: K,
-    first: (Message<K>, u32),
-    second: (Message<K>, u32),
-    a: u32,
-    b: u32,
-    g: &[K::Entry],
-    h: &[K::Entry],
-    key: K,
+    z: Pair<K>,
+    rounds: [(Message<K>, u32); 2],
+    last: Last<K, K::Entry>,
     elements: &mut [K::Entry],
     numbers: &mut [u32],
 ) -> Result<bool, StationFault> {
-    let waiting = match station.open(2, z1, z2)? {
-        Next::Waiting(t) => t,
-        Next::Closing(t) => return give_up(station, Held::Closing(t), StationFault::NotCurrent),
-    };
-    let heard = match station.message(waiting, first.0) {
-        Ok(t) => t,
-        Err(Back { token, fault }) => return give_up(station, Held::Waiting(token), fault),
-    };
-    let waiting_again = match station.draw(heard, first.1) {
-        Ok(Next::Waiting(t)) => t,
-        Ok(Next::Closing(t)) => return give_up(station, Held::Closing(t), StationFault::NotCurrent),
-        Err(Back { token, fault }) => return give_up(station, Held::Heard(token), fault),
-    };
-    let heard_again = match station.message(waiting_again, second.0) {
-        Ok(t) => t,
-        Err(Back { token, fault }) => return give_up(station, Held::Waiting(token), fault),
-    };
-    let closing = match station.draw(heard_again, second.1) {
-        Ok(Next::Closing(t)) => t,
-        Ok(Next::Waiting(t)) => return give_up(station, Held::Waiting(t), StationFault::NotCurrent),
-        Err(Back { token, fault }) => return give_up(station, Held::Heard(token), fault),
-    };
-    match station.last(closing, a, b, g, h, key, elements, numbers) {
-        Ok(passes) => Ok(passes),
-        Err(Back { token, fault }) => give_up(station, Held::Closing(token), fault),
-    }
+    let opened = station.open(2, z.a, z.b)?;
+    play(station, opened, rounds, last, elements, numbers).map_err(|back| give_up(station, back))
 }
 
 #[cfg(test)]
 mod tests {
-    use crate::two_rounds;
+    use crate::{Last, two_rounds};
     use kind::clear::Clear;
     use kind::kind::Kind;
+    use kind::pair::Pair;
     use ledger::fault::StationFault;
     use ledger::parts::{Message, Page};
     use method::fault::MethodFault;
@@ -110,37 +116,23 @@ mod tests {
         numbers: &mut [u32],
     ) -> Result<bool, StationFault> {
         let k = Clear::base();
-        let first = (message(28, 310, 32, 430), 6);
-        let second = (message(640, 6570, 759, 9440), c);
-        let g = [2, 3, 4, 5];
-        two_rounds(
-            station,
-            k.power(68),
-            k.power(900),
-            first,
-            second,
+        let lists = [2, 3, 4, 5];
+        let z = Pair {
+            a: k.power(68),
+            b: k.power(900),
+        };
+        let rounds = [
+            (message(28, 310, 32, 430), 6),
+            (message(640, 6570, 759, 9440), c),
+        ];
+        let last = Last {
             a,
-            790,
-            &g,
-            &g,
-            k,
-            &mut [0; 4],
-            numbers,
-        )
-    }
-
-    fn fault_of(r: Result<bool, StationFault>) -> Option<StationFault> {
-        match r {
-            Ok(_) => None,
-            Err(fault) => Some(fault),
-        }
-    }
-
-    fn passed(r: Result<bool, StationFault>) -> bool {
-        match r {
-            Ok(passes) => passes,
-            Err(_) => false,
-        }
+            b: 790,
+            g: &lists,
+            h: &lists,
+            key: k,
+        };
+        two_rounds(station, z, rounds, last, &mut [0; 4], numbers)
     }
 
     #[test]
@@ -152,14 +144,10 @@ mod tests {
         let no_room = play(&mut station, 7, 313, &mut [0; 3]);
         let page = station.page();
         station.close();
-        assert!(rt; passed(right));
-        assert!(rt; !passed(wrong));
-        assert_eq!(rt; fault_of(wrong), None);
-        assert_eq!(rt; fault_of(no_challenge), Some(StationFault::NotAChallenge));
-        assert_eq!(rt;
-            fault_of(no_room),
-            Some(StationFault::Method(MethodFault::Room(3), 0))
-        );
+        assert_eq!(rt; right, Ok(true));
+        assert_eq!(rt; wrong, Ok(false));
+        assert_eq!(rt; no_challenge, Err(StationFault::NotAChallenge));
+        assert_eq!(rt; no_room, Err(StationFault::Method(MethodFault::Room(3), 0)));
         assert_eq!(rt;
             page,
             Page {

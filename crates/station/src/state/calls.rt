@@ -5,13 +5,14 @@ ghost use Rattle.kind.specs.Pairs.{pair_of};
 ghost use Rattle.method.specs.Entries.{outside};
 ghost use Rattle.method.specs.Meaning.{cleared};
 ghost use Rattle.method.specs.Tables.{challenges};
-ghost use Rattle.ledger.specs.Ledger.{fresh, step, case_answer, same_numbers, numbers_at, of_sort, opening, message as ledger_message, draw as ledger_draw, last_pair, withdrawal, page_turn, lower, upper};
+ghost use Rattle.ledger.specs.Ledger.{fresh, step, case_answer, numbers_at, of_sort, stage_after, sort_after, opening, message as ledger_message, draw as ledger_draw, last_pair, withdrawal, page_turn};
+ghost use Rattle.ledger.specs.declared.parts.Answer.TheVariants.{Token as Handed};
 ghost use Rattle.ledger.specs.declared.parts.Sort.TheVariants as sort;
-ghost use Rattle.station.specs.View.{ledger_of, case_of, last_of, case_k, opening_answer, message_answer, draw_answer, last_answer, withdrawal_answer, turn_answer, held_sort, held_numbers};
+ghost use Rattle.station.specs.View.{ledger_of, case_of, last_of, case_k, current_case, next_answer, opening_answer, message_answer, draw_answer, last_answer, withdrawal_answer, turn_answer, held_sort, held_numbers};
 
 use crate::case::Case;
 use crate::state::Station;
-use crate::tokens::{Back, Closing, Heard, Held, Next, Waiting};
+use crate::tokens::{Back, Closing, Heard, Held, Next, Token, Waiting};
 use kind::kind::Kind;
 use kind::pair::Pair;
 use ledger::fault::StationFault;
@@ -20,12 +21,12 @@ use method::commitments::fold_commitments;
 use method::fault::MethodFault;
 use method::method::Method;
 use method::table::ChallengeTable;
+use std::mem;
 
-fn same(t: Numbers, u: Numbers) -> bool
-    ensures { result ≡ same_numbers t u }
-{
-    (t.station == u.station) & (t.case == u.case) & (t.rounds == u.rounds)
-}
+// Openings on one page.
+const MOST_OPENED: u32 = 10000;
+
+const MOST_ROUNDS: u8 = 8;
 
 // Whether tokens of a sort are current at a stage.
 fn is_of_sort<K>(stage: Stage<K>, sort: Sort) -> bool
@@ -33,40 +34,22 @@ where
     K: Drop,
     ensures { result ≡ of_sort stage sort }
 {
-    match (stage, sort) {
-        (Stage::ForMessage, Sort::Waiting) => true,
-        (Stage::ForDraw(_), Sort::Heard) => true,
-        (Stage::ForLast, Sort::Closing) => true,
-        _ => false,
-    }
+    matches!(
+        (stage, sort),
+        (Stage::ForMessage, Sort::Waiting)
+            | (Stage::ForDraw(_), Sort::Heard)
+            | (Stage::ForLast, Sort::Closing)
+    )
 }
 
-fn sort_of(t: &Held) -> Sort
-    ensures { result ≡ held_sort t.now }
+// What a case of k rounds waits for after so many.
+fn waits_for<K>(k: u8, rounds: u8) -> Stage<K>
+    ensures { result ≡ stage_after k rounds }
 {
-    match t {
-        Held::Waiting(_) => Sort::Waiting,
-        Held::Heard(_) => Sort::Heard,
-        Held::Closing(_) => Sort::Closing,
-    }
-}
-
-fn numbers_of(t: &Held) -> Numbers
-    ensures { result ≡ held_numbers t.now }
-{
-    match t {
-        Held::Waiting(t) => t.numbers,
-        Held::Heard(t) => t.numbers,
-        Held::Closing(t) => t.numbers,
-    }
-}
-
-// Takes a token apart.
-pub(crate) fn spend(t: Held) {
-    match t {
-        Held::Waiting(Waiting { numbers: _ }) => {}
-        Held::Heard(Heard { numbers: _ }) => {}
-        Held::Closing(Closing { numbers: _ }) => {}
+    if rounds == k {
+        Stage::ForLast
+    } else {
+        Stage::ForMessage
     }
 }
 
@@ -77,10 +60,7 @@ fn extended(table: ChallengeTable, c: u32) -> ChallengeTable
     ensures value { challenges result ≡ challenges table ++ c ∷ [] }
     ensures long { length (challenges result) ≡ length (challenges table) + 1 }
 {
-    match table.with(c) {
-        Ok(longer) => longer,
-        Err(_) => unreachable(),
-    }
+    table.with(c).unwrap()
 }
 
 // The method's verdict on a case whose rounds are done.
@@ -121,12 +101,7 @@ impl<K: Kind, M: Method> Station<K, M> {
         Station {
             number,
             method,
-            page: Page {
-                opened: 0,
-                passed: 0,
-                failed: 0,
-                withdrawn: 0,
-            },
+            page: Page::default(),
             case: None,
         }
     }
@@ -151,55 +126,61 @@ impl<K: Kind, M: Method> Station<K, M> {
         self.page
     }
 
+    // What the token says that is current after so many rounds of the open case.
+    fn due(&self, rounds: u8) -> Numbers
+        ensures { result ≡ numbers_at self.now.number self.now.page rounds }
+    {
+        Numbers {
+            station: self.number,
+            case: self.page.opened,
+            rounds,
+        }
+    }
+
+    // The token that is handed out after so many rounds of k.
+    fn next(&self, k: u8, rounds: u8) -> Next
+        ensures { next_answer result ≡ Handed (sort_after k rounds) (numbers_at self.now.number self.now.page rounds) }
+    {
+        let numbers = self.due(rounds);
+        if rounds == k {
+            Next::Closing(Closing { numbers })
+        } else {
+            Next::Waiting(Waiting { numbers })
+        }
+    }
+
+    // The open case, where its current token is of this sort and says these numbers.
+    fn current(&self, sort: Sort, numbers: Numbers) -> Option<Case<K>>
+        ensures { result ≡ current_case self.now.number self.now.page sort numbers self.now.case }
+    {
+        let case = self.case?;
+        (is_of_sort(case.stage, sort) && numbers == self.due(case.rounds)).then_some(case)
+    }
+
     // Opens a case of k rounds for the commitments Z1 and Z2. Refused by 2, 3 and 4.
     pub fn open(&mut self, k: u8, z1: K, z2: K) -> Result<Next, StationFault>
         ensures answer { opening_answer result ≡ (step K.Kind.meaning (ledger_of self.old) (opening k (pair_of z1 z2))).answer }
         ensures ledger { ledger_of self.new ≡ (step K.Kind.meaning (ledger_of self.old) (opening k (pair_of z1 z2))).ledger }
         ensures kept { self.new.method ≡ self.old.method }
     {
-        match self.case {
-            Some(_) => Err(StationFault::CaseOpen),
-            None => {
-                if k > 8 {
-                    return Err(StationFault::TooManyRounds);
-                }
-                if self.page.opened >= 10000 {
-                    return Err(StationFault::PageFull);
-                }
-                self.page = Page {
-                    opened: self.page.opened + 1,
-                    passed: self.page.passed,
-                    failed: self.page.failed,
-                    withdrawn: self.page.withdrawn,
-                };
-                let numbers = Numbers {
-                    station: self.number,
-                    case: self.page.opened,
-                    rounds: 0,
-                };
-                let z = Pair { a: z1, b: z2 };
-                let table = ChallengeTable::empty();
-                if k == 0 {
-                    self.case = Some(Case {
-                        k,
-                        rounds: 0,
-                        stage: Stage::ForLast,
-                        z,
-                        table,
-                    });
-                    Ok(Next::Closing(Closing { numbers }))
-                } else {
-                    self.case = Some(Case {
-                        k,
-                        rounds: 0,
-                        stage: Stage::ForMessage,
-                        z,
-                        table,
-                    });
-                    Ok(Next::Waiting(Waiting { numbers }))
-                }
-            }
+        if self.case.is_some() {
+            return Err(StationFault::CaseOpen);
         }
+        if k > MOST_ROUNDS {
+            return Err(StationFault::TooManyRounds);
+        }
+        if self.page.opened >= MOST_OPENED {
+            return Err(StationFault::PageFull);
+        }
+        self.page.opened += 1;
+        self.case = Some(Case {
+            k,
+            rounds: 0,
+            stage: waits_for(k, 0),
+            z: Pair { a: z1, b: z2 },
+            table: ChallengeTable::empty(),
+        });
+        Ok(self.next(k, 0))
     }
 
     // Takes a round's message. Refused by 1.
@@ -209,41 +190,12 @@ impl<K: Kind, M: Method> Station<K, M> {
         ensures kept { self.new.method ≡ self.old.method }
         ensures back { IfErr result (λ b. b.token ≡ t) }
     {
-        match self.case {
-            Some(case) => match case.stage {
-                Stage::ForMessage => {
-                    let due = Numbers {
-                        station: self.number,
-                        case: self.page.opened,
-                        rounds: case.rounds,
-                    };
-                    if same(t.numbers, due) {
-                        self.case = Some(Case {
-                            k: case.k,
-                            rounds: case.rounds,
-                            stage: Stage::ForDraw(m),
-                            z: case.z,
-                            table: case.table,
-                        });
-                        let Waiting { numbers } = t;
-                        Ok(Heard { numbers })
-                    } else {
-                        Err(Back {
-                            token: t,
-                            fault: StationFault::NotCurrent,
-                        })
-                    }
-                }
-                _ => Err(Back {
-                    token: t,
-                    fault: StationFault::NotCurrent,
-                }),
-            },
-            None => Err(Back {
-                token: t,
-                fault: StationFault::NotCurrent,
-            }),
-        }
+        let Some(mut case) = self.current(Sort::Waiting, t.numbers) else {
+            return Err(Back::not_current(t));
+        };
+        case.stage = Stage::ForDraw(m);
+        self.case = Some(case);
+        Ok(Heard { numbers: t.spend() })
     }
 
     // Folds the commitments by the challenge c. Refused by 1 and 13.
@@ -253,67 +205,27 @@ impl<K: Kind, M: Method> Station<K, M> {
         ensures kept { self.new.method ≡ self.old.method }
         ensures back { IfErr result (λ b. b.token ≡ t) }
     {
-        match self.case {
-            Some(case) => match case.stage {
-                Stage::ForDraw(m) => {
-                    let due = Numbers {
-                        station: self.number,
-                        case: self.page.opened,
-                        rounds: case.rounds,
-                    };
-                    if !same(t.numbers, due) {
-                        return Err(Back {
-                            token: t,
-                            fault: StationFault::NotCurrent,
-                        });
-                    }
-                    if (c == 0) | (c >= K::order()) {
-                        return Err(Back {
-                            token: t,
-                            fault: StationFault::NotAChallenge,
-                        });
-                    }
-                    let Heard { numbers: _ } = t;
-                    let lower = Pair { a: m.l1, b: m.l2 };
-                    let upper = Pair { a: m.r1, b: m.r2 };
-                    let z = fold_commitments(lower, case.z, upper, c);
-                    let table = extended(case.table, c);
-                    let rounds = case.rounds + 1;
-                    let numbers = Numbers {
-                        station: self.number,
-                        case: self.page.opened,
-                        rounds,
-                    };
-                    if rounds == case.k {
-                        self.case = Some(Case {
-                            k: case.k,
-                            rounds,
-                            stage: Stage::ForLast,
-                            z,
-                            table,
-                        });
-                        Ok(Next::Closing(Closing { numbers }))
-                    } else {
-                        self.case = Some(Case {
-                            k: case.k,
-                            rounds,
-                            stage: Stage::ForMessage,
-                            z,
-                            table,
-                        });
-                        Ok(Next::Waiting(Waiting { numbers }))
-                    }
-                }
-                _ => Err(Back {
-                    token: t,
-                    fault: StationFault::NotCurrent,
-                }),
-            },
-            None => Err(Back {
+        let Some(mut case) = self.current(Sort::Heard, t.numbers) else {
+            return Err(Back::not_current(t));
+        };
+        let Stage::ForDraw(m) = case.stage else {
+            unreachable!();
+        };
+        if c == 0 || c >= K::order() {
+            return Err(Back {
                 token: t,
-                fault: StationFault::NotCurrent,
-            }),
+                fault: StationFault::NotAChallenge,
+            });
         }
+        t.spend();
+        let lower = Pair { a: m.l1, b: m.l2 };
+        let upper = Pair { a: m.r1, b: m.r2 };
+        case.rounds += 1;
+        case.stage = waits_for(case.k, case.rounds);
+        case.z = fold_commitments(lower, case.z, upper, c);
+        case.table = extended(case.table, c);
+        self.case = Some(case);
+        Ok(self.next(case.k, case.rounds))
     }
 
     // The method's verdict on the last pair a, b, counted. Refused by 1, and then as the method refuses: 5, 6, 8, 11 and 12.
@@ -335,55 +247,33 @@ impl<K: Kind, M: Method> Station<K, M> {
         ensures elements { work_elements.new ≡ cleared result (2 ^ case_k (ledger_of self.old)) (unit_entry K.Kind.meaning) work_elements.old }
         ensures numbers { work_numbers.new ≡ cleared result (2 ^ case_k (ledger_of self.old)) 0 work_numbers.old }
     {
-        match self.case {
-            Some(case) => match case.stage {
-                Stage::ForLast => {
-                    let due = Numbers {
-                        station: self.number,
-                        case: self.page.opened,
-                        rounds: case.rounds,
-                    };
-                    if !same(t.numbers, due) {
-                        return Err(Back {
-                            token: t,
-                            fault: StationFault::NotCurrent,
-                        });
-                    }
-                    match ask_method(
-                        &self.method,
-                        case,
-                        a,
-                        b,
-                        g,
-                        h,
-                        key,
-                        work_elements,
-                        work_numbers,
-                    ) {
-                        Ok(passes) => {
-                            let Closing { numbers: _ } = t;
-                            if passes {
-                                self.page.passed += 1;
-                            } else {
-                                self.page.failed += 1;
-                            }
-                            self.case = None;
-                            Ok(passes)
-                        }
-                        Err(fault) => Err(Back {
-                            token: t,
-                            fault: StationFault::Method(fault, 0),
-                        }),
-                    }
+        let Some(case) = self.current(Sort::Closing, t.numbers) else {
+            return Err(Back::not_current(t));
+        };
+        match ask_method(
+            &self.method,
+            case,
+            a,
+            b,
+            g,
+            h,
+            key,
+            work_elements,
+            work_numbers,
+        ) {
+            Ok(passes) => {
+                t.spend();
+                if passes {
+                    self.page.passed += 1;
+                } else {
+                    self.page.failed += 1;
                 }
-                _ => Err(Back {
-                    token: t,
-                    fault: StationFault::NotCurrent,
-                }),
-            },
-            None => Err(Back {
+                self.case = None;
+                Ok(passes)
+            }
+            Err(fault) => Err(Back {
                 token: t,
-                fault: StationFault::NotCurrent,
+                fault: fault.into(),
             }),
         }
     }
@@ -395,30 +285,13 @@ impl<K: Kind, M: Method> Station<K, M> {
         ensures kept { self.new.method ≡ self.old.method }
         ensures back { IfErr result (λ b. b.token ≡ t) }
     {
-        match self.case {
-            Some(case) => {
-                let due = Numbers {
-                    station: self.number,
-                    case: self.page.opened,
-                    rounds: case.rounds,
-                };
-                if is_of_sort(case.stage, sort_of(&t)) & same(numbers_of(&t), due) {
-                    spend(t);
-                    self.page.withdrawn += 1;
-                    self.case = None;
-                    Ok(())
-                } else {
-                    Err(Back {
-                        token: t,
-                        fault: StationFault::NotCurrent,
-                    })
-                }
-            }
-            None => Err(Back {
-                token: t,
-                fault: StationFault::NotCurrent,
-            }),
+        if self.current(t.sort(), t.numbers()).is_none() {
+            return Err(Back::not_current(t));
         }
+        t.spend();
+        self.page.withdrawn += 1;
+        self.case = None;
+        Ok(())
     }
 
     // Answers the four counts and sets them to 0. Refused by 2.
@@ -427,18 +300,9 @@ impl<K: Kind, M: Method> Station<K, M> {
         ensures ledger { ledger_of self.new ≡ (step K.Kind.meaning (ledger_of self.old) page_turn).ledger }
         ensures kept { self.new.method ≡ self.old.method }
     {
-        match self.case {
-            Some(_) => Err(StationFault::CaseOpen),
-            None => {
-                let page = self.page;
-                self.page = Page {
-                    opened: 0,
-                    passed: 0,
-                    failed: 0,
-                    withdrawn: 0,
-                };
-                Ok(page)
-            }
+        if self.case.is_some() {
+            return Err(StationFault::CaseOpen);
         }
+        Ok(mem::take(&mut self.page))
     }
 }
