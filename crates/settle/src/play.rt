@@ -17,7 +17,6 @@ ghost use Rattle.settle.specs.Cases.{passed_if_opened, if_judged, work_lists_ref
 use kind::entries::clear_entries;
 use kind::kind::Kind;
 use ledger::parts::{Answer, Message, Numbers, Sort};
-use method::last_pair::clear_numbers;
 use method::method::Method;
 use station::call::{Call, LastPair};
 use station::replay::perform;
@@ -169,7 +168,7 @@ fn close_case<'a, K: Kind, M: Method>(
     let call = Call::Last(Sort::Closing, token, left);
     let answer = perform(station, &call, fold_g, fold_l);
     clear_entries::<K>(fold_h);
-    clear_numbers(fold_r);
+    fold_r.fill(0);
     answer
 }
 
@@ -199,28 +198,26 @@ fn play_rounds<K: Kind, M: Method>(
     ensures r { result ≡ Ok (Verdict true) → fold_r.new ≡ replicate (length fold_r.old) 0 }
 {
     let mut m = g.len();
-    for i in 0..cs.len() {
+    for (i, c) in cs.iter().enumerate() {
         let now = Numbers {
-            station: token.station,
-            case: token.case,
             rounds: i as u8,
+            ..token
         };
         play_round(
             station,
             key,
-            cs[i],
+            *c,
             now,
             &mut fold_g[0..m],
             &mut fold_h[0..m],
             &mut fold_l[0..m],
             &mut fold_r[0..m],
         )?;
-        m = m / 2;
+        m /= 2;
     }
     let end = Numbers {
-        station: token.station,
-        case: token.case,
         rounds: cs.len() as u8,
+        ..token
     };
     Ok(close_case(station, g, h, key, end, fold_g, fold_h, fold_l, fold_r))
 }
@@ -311,9 +308,9 @@ pub fn play_case<K: Kind, M: Method>(
         l,
         r,
         challenges,
-        &mut fold_g[0..n],
-        &mut fold_h[0..n],
-        &mut fold_l[0..n],
-        &mut fold_r[0..n],
+        &mut fold_g[..n],
+        &mut fold_h[..n],
+        &mut fold_l[..n],
+        &mut fold_r[..n],
     )
 }

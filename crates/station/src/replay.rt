@@ -14,7 +14,6 @@ use kind::entries::clear_entries;
 use kind::kind::Kind;
 use ledger::fault::StationFault;
 use ledger::parts::{Answer, Line, Message, Numbers, Sort};
-use method::last_pair::clear_numbers;
 use method::method::Method;
 
 // A last pair, lent as many elements and numbers of the work lists as it asks for.
@@ -45,7 +44,7 @@ fn perform_last<K: Kind, M: Method>(
     ) {
         Ok(passes) => {
             clear_entries::<K>(work_elements);
-            clear_numbers(work_numbers);
+            work_numbers.fill(0);
             Answer::Verdict(passes)
         }
         Err(back) => back.into(),
@@ -114,7 +113,7 @@ pub fn replay<K: Kind, M: Method>(
         };
     }
     clear_entries::<K>(elements);
-    clear_numbers(numbers);
+    numbers.fill(0);
     station.close()
 }
 

@@ -1,10 +1,11 @@
-use Rattle.std.proofs.Common.{◌≡◌, ℕ, ◌-◌, ◌≤◌, true, List, ◌++◌, length, take, drop, replicate, Ok, Err, Result, sym, refl, ap, ◌∙◌, rules}
+use Rattle.std.proofs.Common.{◌≡◌, ℕ, ◌≤◌, true, List, ◌++◌, length, take, drop, replicate, Ok, Err, Result, sym, refl, ap, ◌∙◌, rules}
+use Rattle.std.proofs.lemmas.List.{length-take-le}
 use Rattle.kind.proofs.Steps.{went}
 use Rattle.kind.specs.Kinds.{unit_entry}
 use Rattle.ledger.specs.Ledger.{Ledger, final}
 use Rattle.ledger.specs.declared.parts.Answer.{Answer}
 use Rattle.ledger.specs.declared.parts.Answer.TheVariants.{Token, Verdict, Withdrawn, Turned, Refused}
-use Rattle.method.proofs.Refused.{cleared_part, part_length}
+use Rattle.method.proofs.Refused.{cleared_part}
 use Rattle.station.proofs.Turns.{part_same}
 use Rattle.station.specs.View.{ledger_of}
 use Rattle.writer.specs.declared.fault.WriterFault.{WriterFault}
@@ -18,14 +19,14 @@ one_answer x a b p q = cc
 
 -- the first n of xs were lent, and are ys now
 lent : {A : Type 0} (a : Result Answer WriterFault) (xs ys : List A) (n : ℕ) (u : A) → n ≤ length xs
-    → ys ≡ if_judged a (replicate (length (take (n - 0) xs)) u) (take (n - 0) xs)
-    → ys ++ drop (n - 0) xs ≡ if_judged a (replicate n u ++ drop n xs) xs
-lent (Ok (Token sort t)) xs ys n u room is = part_same xs ys (n - 0) is
+    → ys ≡ if_judged a (replicate (length (take n xs)) u) (take n xs)
+    → ys ++ drop n xs ≡ if_judged a (replicate n u ++ drop n xs) xs
+lent (Ok (Token sort t)) xs ys n u room is = part_same xs ys n is
 lent (Ok (Verdict b)) xs ys n u room is = cleared_part xs ys n n u refl room is
-lent (Ok Withdrawn) xs ys n u room is = part_same xs ys (n - 0) is
-lent (Ok (Turned p)) xs ys n u room is = part_same xs ys (n - 0) is
-lent (Ok (Refused why)) xs ys n u room is = part_same xs ys (n - 0) is
-lent (Err why) xs ys n u room is = part_same xs ys (n - 0) is
+lent (Ok Withdrawn) xs ys n u room is = part_same xs ys n is
+lent (Ok (Turned p)) xs ys n u room is = part_same xs ys n is
+lent (Ok (Refused why)) xs ys n u room is = part_same xs ys n is
+lent (Err why) xs ys n u room is = part_same xs ys n is
 
 pub slice_bounds-play_admitted-end : goal.slice_bounds-play_admitted-end
 slice_bounds-play_admitted-end g c =
@@ -40,7 +41,7 @@ slice_bounds-play_admitted-end-2 g c =
     let e = sym c.admit_play.ensures ∙ c.in_ok-admit_play.was in
     let a = free g.K.Kind.meaning g.K.Kind.laws c.args.g.now c.args.h.now c.args.l.now c.args.r.now c.args.challenges.now
     (length c.args.fold_g.now) (length c.args.fold_h.now) (length c.args.fold_l.now) (length c.args.fold_r.now) e in
-    let fits = a.roomy.room_h in
+    let fits = a.roomy.room_g in
     search rules
 
 pub slice_bounds-play_admitted-end-3 : goal.slice_bounds-play_admitted-end-3
@@ -48,11 +49,43 @@ slice_bounds-play_admitted-end-3 g c =
     let e = sym c.admit_play.ensures ∙ c.in_ok-admit_play.was in
     let a = free g.K.Kind.meaning g.K.Kind.laws c.args.g.now c.args.h.now c.args.l.now c.args.r.now c.args.challenges.now
     (length c.args.fold_g.now) (length c.args.fold_h.now) (length c.args.fold_l.now) (length c.args.fold_r.now) e in
-    let fits = a.roomy.room_l in
+    let fits = a.roomy.room_h in
     search rules
 
 pub slice_bounds-play_admitted-end-4 : goal.slice_bounds-play_admitted-end-4
 slice_bounds-play_admitted-end-4 g c =
+    let e = sym c.admit_play.ensures ∙ c.in_ok-admit_play.was in
+    let a = free g.K.Kind.meaning g.K.Kind.laws c.args.g.now c.args.h.now c.args.l.now c.args.r.now c.args.challenges.now
+    (length c.args.fold_g.now) (length c.args.fold_h.now) (length c.args.fold_l.now) (length c.args.fold_r.now) e in
+    let fits = a.roomy.room_h in
+    search rules
+
+pub slice_bounds-play_admitted-end-5 : goal.slice_bounds-play_admitted-end-5
+slice_bounds-play_admitted-end-5 g c =
+    let e = sym c.admit_play.ensures ∙ c.in_ok-admit_play.was in
+    let a = free g.K.Kind.meaning g.K.Kind.laws c.args.g.now c.args.h.now c.args.l.now c.args.r.now c.args.challenges.now
+    (length c.args.fold_g.now) (length c.args.fold_h.now) (length c.args.fold_l.now) (length c.args.fold_r.now) e in
+    let fits = a.roomy.room_l in
+    search rules
+
+pub slice_bounds-play_admitted-end-6 : goal.slice_bounds-play_admitted-end-6
+slice_bounds-play_admitted-end-6 g c =
+    let e = sym c.admit_play.ensures ∙ c.in_ok-admit_play.was in
+    let a = free g.K.Kind.meaning g.K.Kind.laws c.args.g.now c.args.h.now c.args.l.now c.args.r.now c.args.challenges.now
+    (length c.args.fold_g.now) (length c.args.fold_h.now) (length c.args.fold_l.now) (length c.args.fold_r.now) e in
+    let fits = a.roomy.room_l in
+    search rules
+
+pub slice_bounds-play_admitted-end-7 : goal.slice_bounds-play_admitted-end-7
+slice_bounds-play_admitted-end-7 g c =
+    let e = sym c.admit_play.ensures ∙ c.in_ok-admit_play.was in
+    let a = free g.K.Kind.meaning g.K.Kind.laws c.args.g.now c.args.h.now c.args.l.now c.args.r.now c.args.challenges.now
+    (length c.args.fold_g.now) (length c.args.fold_h.now) (length c.args.fold_l.now) (length c.args.fold_r.now) e in
+    let fits = a.roomy.room_r in
+    search rules
+
+pub slice_bounds-play_admitted-end-8 : goal.slice_bounds-play_admitted-end-8
+slice_bounds-play_admitted-end-8 g c =
     let e = sym c.admit_play.ensures ∙ c.in_ok-admit_play.was in
     let a = free g.K.Kind.meaning g.K.Kind.laws c.args.g.now c.args.h.now c.args.l.now c.args.r.now c.args.challenges.now
     (length c.args.fold_g.now) (length c.args.fold_h.now) (length c.args.fold_l.now) (length c.args.fold_r.now) e in
@@ -68,10 +101,10 @@ play_admitted-requires g c =
     record {
       ready = a.ready;
       playable = a.playable;
-      room_g = part_length c.args.fold_g.now n a.roomy.room_g;
-      room_h = part_length c.args.fold_h.now n a.roomy.room_h;
-      room_l = part_length c.args.fold_l.now n a.roomy.room_l;
-      room_r = part_length c.args.fold_r.now n a.roomy.room_r;
+      room_g = length-take-le n c.args.fold_g.now a.roomy.room_g;
+      room_h = length-take-le n c.args.fold_h.now a.roomy.room_h;
+      room_l = length-take-le n c.args.fold_l.now a.roomy.room_l;
+      room_r = length-take-le n c.args.fold_r.now a.roomy.room_r;
     }
 
 pub returns : goal.returns

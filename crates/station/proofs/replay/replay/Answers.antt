@@ -37,6 +37,6 @@ returns g c =
           drop_less c.args.out.now out (length calls) same
           (subst (λ (k : ℕ). drop k out ≡ drop k c.args.out.now) due inv.1);
       elements = c.clear_entries.ensures ∙ ap (λ (n : ℕ). replicate n (unit_entry g.K.Kind.meaning)) c.loop-i.auto.elements;
-      numbers = c.clear_numbers.ensures ∙ ap (λ (n : ℕ). replicate n 0) c.loop-i.auto.numbers;
+      numbers = c.fill.ensures.after (λ y e. e) ∙ ap (λ (n : ℕ). replicate n 0) c.loop-i.auto.numbers;
       method = c.close.ensures ∙ inv.2 ∙ c.new-station.ensures.method;
     }
