@@ -8,6 +8,7 @@ use crate::fault::BundleFault;
 use crate::records::Records;
 use kind::kind::Kind;
 use kind::written::WrittenKind;
+use method::bases::Bases;
 use method::method::Method;
 use record::check::check_front;
 
@@ -17,13 +18,11 @@ impl<'a> Records<'a> {
     pub fn check_next<K: WrittenKind, M: Method>(
         &mut self,
         method: &M,
-        g: &[K::Entry],
-        h: &[K::Entry],
-        key: K,
+        bases: &Bases<K>,
         work_elements: &mut [K::Entry],
         work_numbers: &mut [u32],
     ) -> Option<Result<bool, BundleFault>>
-        ensures answer { result ≡ next_answer K.Kind.meaning K.WrittenKind.writing (handed_out self.old) (left self.old) g.now h.now key (length work_elements.old) (length work_numbers.old) }
+        ensures answer { result ≡ next_answer K.Kind.meaning K.WrittenKind.writing (handed_out self.old) (left self.old) bases.now.g.now bases.now.h.now bases.now.key (length work_elements.old) (length work_numbers.old) }
         ensures bodies { left self.new ≡ behind (left self.old) }
         ensures counted { handed_out self.new ≡ handed_out self.old + one_more (left self.old) }
         ensures fewer { MatchOption result (left self.new ≡ []) (λ _. length (left self.new) + 1 ≡ length (left self.old)) }
@@ -34,7 +33,7 @@ impl<'a> Records<'a> {
         let Some(body) = self.next() else {
             return None;
         };
-        let answer = check_front::<K, M>(method, body, g, h, key, work_elements, work_numbers);
+        let answer = check_front::<K, M>(method, body, bases, work_elements, work_numbers);
         Some(answer.map_err(|fault| BundleFault::Record(fault, index)))
     }
 }

@@ -3,6 +3,7 @@ ghost use Rattle.std.specs.Prelude.{◌≡◌, ◌^◌, min, Ok, IfOk};
 ghost use Rattle.kind.specs.Faults.{and_then, first_of};
 ghost use Rattle.method.specs.Meaning.{is_size, scalar_refusal, length_refusals, content_refusals};
 
+use crate::bases::{Bases, CheckedBases};
 use crate::fault::MethodFault;
 use kind::checked::Checked;
 use kind::fault::require;
@@ -40,20 +41,24 @@ pub(crate) fn check_lengths(
 
 // 11 and 12: the lists, checked, after the last pair was.
 pub(crate) fn check_content<'a, K: Kind>(
-    g: &'a [K::Entry],
-    h: &'a [K::Entry],
+    bases: &Bases<'a, K>,
     a: u32,
     b: u32,
-) -> Result<(Checked<'a, K>, Checked<'a, K>), MethodFault>
-    ensures refused { and_then result (λ _. Ok tt) ≡ first_of (content_refusals K.Kind.meaning g.now h.now a b) }
-    ensures g { IfOk result (λ p. p.0.entries.now ≡ g.now) }
-    ensures h { IfOk result (λ p. p.1.entries.now ≡ h.now) }
+) -> Result<CheckedBases<'a, K>, MethodFault>
+    ensures refused { and_then result (λ _. Ok tt) ≡ first_of (content_refusals K.Kind.meaning bases.now.g.now bases.now.h.now a b) }
+    ensures g { IfOk result (λ c. c.g.entries.now ≡ bases.now.g.now) }
+    ensures h { IfOk result (λ c. c.h.entries.now ≡ bases.now.h.now) }
+    ensures key { IfOk result (λ c. c.key ≡ bases.now.key) }
 {
-    let g = Checked::<K>::new(g)?;
-    let h = Checked::<K>::new(h)?;
+    let g = Checked::<K>::new(bases.g)?;
+    let h = Checked::<K>::new(bases.h)?;
     check_scalar::<K>(a)?;
     check_scalar::<K>(b)?;
-    Ok((g, h))
+    Ok(CheckedBases {
+        g,
+        h,
+        key: bases.key,
+    })
 }
 
 // How many entries so many rounds fold to one. More than eight rounds count as eight.

@@ -4,6 +4,7 @@ ghost use Rattle.kind.specs.Kinds.{elements};
 ghost use Rattle.method.specs.Meaning.{reduced};
 ghost use Rattle.method.specs.Sides.{folds_of};
 
+use crate::bases::CheckedBases;
 use crate::last_pair::passes;
 use crate::method::Method;
 use kind::checked::Checked;
@@ -39,17 +40,15 @@ impl Method for Halving {
         &self,
         cs: &[u32],
         z: Pair<K>,
-        g: &Checked<K>,
-        h: &Checked<K>,
-        key: K,
+        bases: &CheckedBases<K>,
         a: u32,
         b: u32,
         elements: &mut [K::Entry],
         numbers: &mut [u32],
     ) -> bool {
         let half = elements.len() / 2;
-        let x = last(Side::OfG, cs, g, &mut elements[..half]);
-        let y = last(Side::OfH, cs, h, &mut elements[half..half + half]);
-        passes(z, key, x, y, a, b)
+        let x = last(Side::OfG, cs, &bases.g, &mut elements[..half]);
+        let y = last(Side::OfH, cs, &bases.h, &mut elements[half..half + half]);
+        passes(z, bases.key, x, y, a, b)
     }
 }

@@ -2,6 +2,7 @@
 #![tactic(auto)]
 
 pub mod admit;
+pub mod bases;
 pub mod commitments;
 pub mod fault;
 pub mod halving;

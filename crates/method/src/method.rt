@@ -6,9 +6,9 @@ ghost use Rattle.method.specs.Sides.{Admitted};
 ghost use Rattle.method.specs.Tables.{challenges};
 
 use crate::admit::{check_content, check_lengths};
+use crate::bases::{Bases, CheckedBases};
 use crate::fault::MethodFault;
 use crate::table::ChallengeTable;
-use kind::checked::Checked;
 use kind::entries::clear_entries;
 use kind::kind::Kind;
 use kind::pair::Pair;
@@ -20,36 +20,32 @@ pub trait Method {
         &self,
         cs: &[u32],
         z: Pair<K>,
-        g: &Checked<K>,
-        h: &Checked<K>,
-        key: K,
+        bases: &CheckedBases<K>,
         a: u32,
         b: u32,
         elements: &mut [K::Entry],
         numbers: &mut [u32],
     ) -> bool
-        requires { Admitted cs.now (length g.now.entries.now) (length h.now.entries.now) (length elements.old) (length numbers.old) }
-        ensures { result ≡ verdict_of K.Kind.meaning cs.now z g.now.entries.now h.now.entries.now key a b };
+        requires { Admitted cs.now (length bases.now.g.entries.now) (length bases.now.h.entries.now) (length elements.old) (length numbers.old) }
+        ensures { result ≡ verdict_of K.Kind.meaning cs.now z bases.now.g.entries.now bases.now.h.entries.now bases.now.key a b };
 
     // The same, with the work lists cleared.
     fn decide_and_clear<K: Kind>(
         &self,
         cs: &[u32],
         z: Pair<K>,
-        g: &Checked<K>,
-        h: &Checked<K>,
-        key: K,
+        bases: &CheckedBases<K>,
         a: u32,
         b: u32,
         elements: &mut [K::Entry],
         numbers: &mut [u32],
     ) -> bool
-        requires { Admitted cs.now (length g.now.entries.now) (length h.now.entries.now) (length elements.old) (length numbers.old) }
-        ensures verdict { result ≡ verdict_of K.Kind.meaning cs.now z g.now.entries.now h.now.entries.now key a b }
+        requires { Admitted cs.now (length bases.now.g.entries.now) (length bases.now.h.entries.now) (length elements.old) (length numbers.old) }
+        ensures verdict { result ≡ verdict_of K.Kind.meaning cs.now z bases.now.g.entries.now bases.now.h.entries.now bases.now.key a b }
         ensures elements { elements.new ≡ replicate (length elements.old) (unit_entry K.Kind.meaning) }
         ensures numbers { numbers.new ≡ replicate (length numbers.old) 0 }
     {
-        let passes = self.decide(cs, z, g, h, key, a, b, elements, numbers);
+        let passes = self.decide(cs, z, bases, a, b, elements, numbers);
         clear_entries::<K>(elements);
         numbers.fill(0);
         passes
@@ -61,28 +57,30 @@ pub trait Method {
         &self,
         table: &ChallengeTable,
         z: Pair<K>,
-        g: &[K::Entry],
-        h: &[K::Entry],
-        key: K,
+        bases: &Bases<K>,
         a: u32,
         b: u32,
         work_elements: &mut [K::Entry],
         work_numbers: &mut [u32],
     ) -> Result<bool, MethodFault>
-        ensures answer { result ≡ method_answer K.Kind.meaning (challenges table.now) z g.now h.now key a b (length work_elements.old) (length work_numbers.old) }
+        ensures answer { result ≡ method_answer K.Kind.meaning (challenges table.now) z bases.now.g.now bases.now.h.now bases.now.key a b (length work_elements.old) (length work_numbers.old) }
         ensures elements { work_elements.new ≡ cleared result (2 ^ length (challenges table.now)) (unit_entry K.Kind.meaning) work_elements.old }
         ensures numbers { work_numbers.new ≡ cleared result (2 ^ length (challenges table.now)) 0 work_numbers.old }
     {
         let cs = table.challenges();
         let n = table.size();
-        check_lengths(n, g.len(), h.len(), work_elements.len(), work_numbers.len())?;
-        let (gs, hs) = check_content::<K>(g, h, a, b)?;
+        check_lengths(
+            n,
+            bases.g.len(),
+            bases.h.len(),
+            work_elements.len(),
+            work_numbers.len(),
+        )?;
+        let checked = check_content(bases, a, b)?;
         Ok(self.decide_and_clear(
             cs,
             z,
-            &gs,
-            &hs,
-            key,
+            &checked,
             a,
             b,
             &mut work_elements[..n],

@@ -1,10 +1,10 @@
 // The method that multiplies both lists out by weights.
 ghost use Rattle.std.specs.Prelude.{◌≡◌};
 
+use crate::bases::CheckedBases;
 use crate::last_pair::passes;
 use crate::method::Method;
 use crate::weights::fill_weights;
-use kind::checked::Checked;
 use kind::kind::Kind;
 use kind::pair::Pair;
 
@@ -17,18 +17,16 @@ impl Method for MultiplyingOut {
         &self,
         cs: &[u32],
         z: Pair<K>,
-        g: &Checked<K>,
-        h: &Checked<K>,
-        key: K,
+        bases: &CheckedBases<K>,
         a: u32,
         b: u32,
         elements: &mut [K::Entry],
         numbers: &mut [u32],
     ) -> bool {
         fill_weights::<K>(cs, numbers);
-        let y = h.join_powers(numbers);
+        let y = bases.h.join_powers(numbers);
         numbers.reverse();
-        let x = g.join_powers(numbers);
-        passes(z, key, x, y, a, b)
+        let x = bases.g.join_powers(numbers);
+        passes(z, bases.key, x, y, a, b)
     }
 }

@@ -13,28 +13,25 @@ use kind::bytes::{byte_at, cut};
 use kind::kind::Kind;
 use kind::written::WrittenKind;
 use method::admit::list_length;
+use method::bases::Bases;
 use method::method::Method;
 
 // The method's answer for what a record comes to.
 fn judge<K: Kind, M: Method>(
     method: &M,
     noted: Noted<K>,
-    g: &[K::Entry],
-    h: &[K::Entry],
-    key: K,
+    bases: &Bases<K>,
     work_elements: &mut [K::Entry],
     work_numbers: &mut [u32],
 ) -> Result<bool, RecordFault>
-    ensures answer { result ≡ reckoned_answer K.Kind.meaning (seen noted) g.now h.now key (length work_elements.old) (length work_numbers.old) }
+    ensures answer { result ≡ reckoned_answer K.Kind.meaning (seen noted) bases.now.g.now bases.now.h.now bases.now.key (length work_elements.old) (length work_numbers.old) }
     ensures elements { work_elements.new ≡ cleared result (2 ^ length (seen noted).challenges) (unit_entry K.Kind.meaning) work_elements.old }
     ensures numbers { work_numbers.new ≡ cleared result (2 ^ length (seen noted).challenges) 0 work_numbers.old }
 {
     Ok(method.verdict(
         &noted.table,
         noted.z,
-        g,
-        h,
-        key,
+        bases,
         noted.a,
         noted.b,
         work_elements,
@@ -47,44 +44,37 @@ fn judge<K: Kind, M: Method>(
 pub fn check_record<K: WrittenKind, M: Method>(
     method: &M,
     bytes: &[u8],
-    g: &[K::Entry],
-    h: &[K::Entry],
-    key: K,
+    bases: &Bases<K>,
     work_elements: &mut [K::Entry],
     work_numbers: &mut [u32],
 ) -> Result<bool, RecordFault>
-    ensures answer { result ≡ record_answer K.Kind.meaning K.WrittenKind.writing bytes.now g.now h.now key (length work_elements.old) (length work_numbers.old) }
+    ensures answer { result ≡ record_answer K.Kind.meaning K.WrittenKind.writing bytes.now bases.now.g.now bases.now.h.now bases.now.key (length work_elements.old) (length work_numbers.old) }
     ensures elements { work_elements.new ≡ cleared result (2 ^ rounds_in bytes.now) (unit_entry K.Kind.meaning) work_elements.old }
     ensures numbers { work_numbers.new ≡ cleared result (2 ^ rounds_in bytes.now) 0 work_numbers.old }
 {
     let noted = read_whole::<K>(bytes)?;
-    judge(method, noted, g, h, key, work_elements, work_numbers)
+    judge(method, noted, bases, work_elements, work_numbers)
 }
 
 // The record call over the first 2^k entries of longer lists, k being the record's.
 pub fn check_front<K: WrittenKind, M: Method>(
     method: &M,
     bytes: &[u8],
-    g: &[K::Entry],
-    h: &[K::Entry],
-    key: K,
+    bases: &Bases<K>,
     work_elements: &mut [K::Entry],
     work_numbers: &mut [u32],
 ) -> Result<bool, RecordFault>
-    ensures answer { result ≡ front_answer K.Kind.meaning K.WrittenKind.writing bytes.now g.now h.now key (length work_elements.old) (length work_numbers.old) }
+    ensures answer { result ≡ front_answer K.Kind.meaning K.WrittenKind.writing bytes.now bases.now.g.now bases.now.h.now bases.now.key (length work_elements.old) (length work_numbers.old) }
     ensures elements { work_elements.new ≡ cleared result (2 ^ rounds_in bytes.now) (unit_entry K.Kind.meaning) work_elements.old }
     ensures numbers { work_numbers.new ≡ cleared result (2 ^ rounds_in bytes.now) 0 work_numbers.old }
 {
     let n = list_length(byte_at(bytes, 0) as usize);
-    let (front_g, _) = cut(g, n);
-    let (front_h, _) = cut(h, n);
-    check_record::<K, M>(
-        method,
-        bytes,
-        front_g,
-        front_h,
-        key,
-        work_elements,
-        work_numbers,
-    )
+    let (g, _) = cut(bases.g, n);
+    let (h, _) = cut(bases.h, n);
+    let front = Bases {
+        g,
+        h,
+        key: bases.key,
+    };
+    check_record::<K, M>(method, bytes, &front, work_elements, work_numbers)
 }

@@ -14,7 +14,7 @@ call_of elements numbers (Open k z1 z2) = ledger.opening k (pair_of z1 z2)
 call_of elements numbers (Message sort t m) = ledger.message sort t m
 call_of elements numbers (Draw sort t c) = ledger.draw sort t c
 call_of elements numbers (Last sort t p) =
-    ledger.last_pair sort t (last_of p.g.now p.h.now p.key p.a p.b (min p.elements elements) (min p.numbers numbers))
+    ledger.last_pair sort t (last_of p.bases.g.now p.bases.h.now p.bases.key p.a p.b (min p.elements elements) (min p.numbers numbers))
 call_of elements numbers (Withdraw sort t) = ledger.withdrawal sort t
 call_of elements numbers Turn = ledger.page_turn
 

@@ -20,12 +20,12 @@ use method::method::Method;
 fn perform_last<K: Kind, M: Method>(
     station: &mut Station<K, M>,
     numbers: Numbers,
-    p: &LastPair<K, K::Entry>,
+    p: &LastPair<K>,
     work_elements: &mut [K::Entry],
     work_numbers: &mut [u32],
 ) -> Answer
-    ensures answer { result ≡ (step K.Kind.meaning (ledger_of station.old) (last_pair sort.Closing numbers (last_of p.now.g.now p.now.h.now p.now.key p.now.a p.now.b (min p.now.elements (length work_elements.old)) (min p.now.numbers (length work_numbers.old))))).answer }
-    ensures ledger { ledger_of station.new ≡ (step K.Kind.meaning (ledger_of station.old) (last_pair sort.Closing numbers (last_of p.now.g.now p.now.h.now p.now.key p.now.a p.now.b (min p.now.elements (length work_elements.old)) (min p.now.numbers (length work_numbers.old))))).ledger }
+    ensures answer { result ≡ (step K.Kind.meaning (ledger_of station.old) (last_pair sort.Closing numbers (last_of p.now.bases.g.now p.now.bases.h.now p.now.bases.key p.now.a p.now.b (min p.now.elements (length work_elements.old)) (min p.now.numbers (length work_numbers.old))))).answer }
+    ensures ledger { ledger_of station.new ≡ (step K.Kind.meaning (ledger_of station.old) (last_pair sort.Closing numbers (last_of p.now.bases.g.now p.now.bases.h.now p.now.bases.key p.now.a p.now.b (min p.now.elements (length work_elements.old)) (min p.now.numbers (length work_numbers.old))))).ledger }
     ensures kept { station.new.method ≡ station.old.method }
     ensures elements { work_elements.new ≡ after_verdict result (unit_entry K.Kind.meaning) work_elements.old }
     ensures numbers { work_numbers.new ≡ after_verdict result 0 work_numbers.old }
@@ -36,9 +36,7 @@ fn perform_last<K: Kind, M: Method>(
         Closing { numbers },
         p.a,
         p.b,
-        p.g,
-        p.h,
-        p.key,
+        &p.bases,
         &mut work_elements[..elements],
         &mut work_numbers[..scalars],
     ) {
@@ -54,7 +52,7 @@ fn perform_last<K: Kind, M: Method>(
 // One call, as the ledger's step. A verdict leaves both work lists cleared; any other answer alters none. A token of a sort that the call does not take is refused by 1, as any that is not current.
 pub fn perform<K: Kind, M: Method>(
     station: &mut Station<K, M>,
-    call: &Call<K, K::Entry>,
+    call: &Call<K>,
     elements: &mut [K::Entry],
     numbers: &mut [u32],
 ) -> Answer
@@ -91,7 +89,7 @@ pub fn perform<K: Kind, M: Method>(
 pub fn replay<K: Kind, M: Method>(
     number: u16,
     method: M,
-    calls: &[Call<K, K::Entry>],
+    calls: &[Call<K>],
     elements: &mut [K::Entry],
     numbers: &mut [u32],
     out: &mut [Line],
@@ -122,7 +120,7 @@ pub fn replay_both<K: Kind, M: Method, N: Method>(
     number: u16,
     first: M,
     second: N,
-    calls: &[Call<K, K::Entry>],
+    calls: &[Call<K>],
     elements: &mut [K::Entry],
     numbers: &mut [u32],
     out: &mut [Line],

@@ -5,19 +5,10 @@ use kind::kind::Kind;
 use kind::pair::Pair;
 use ledger::fault::StationFault;
 use ledger::parts::Message;
+use method::bases::Bases;
 use method::method::Method;
 use station::state::Station;
 use station::tokens::{Back, Closing, Held, Next, Token, Waiting};
-
-// A last pair a, b, and what its verdict is on.
-#[derive(Clone, Copy)]
-pub struct Last<'a, K, E> {
-    pub a: u32,
-    pub b: u32,
-    pub g: &'a [E],
-    pub h: &'a [E],
-    pub key: K,
-}
 
 // The token for a message, where that is what the case waits for.
 fn waiting(next: Next) -> Result<Waiting, Back<Held>> {
@@ -46,7 +37,8 @@ fn play<K: Kind, M: Method>(
     station: &mut Station<K, M>,
     opened: Next,
     rounds: [(Message<K>, u32); 2],
-    last: Last<K, K::Entry>,
+    bases: &Bases<K>,
+    last: (u32, u32),
     elements: &mut [K::Entry],
     numbers: &mut [u32],
 ) -> Result<bool, Back<Held>> {
@@ -55,8 +47,7 @@ fn play<K: Kind, M: Method>(
     let waiting_again = waiting(station.draw(heard, first.1)?)?;
     let heard_again = station.message(waiting_again, second.0)?;
     let closing = closing(station.draw(heard_again, second.1)?)?;
-    let Last { a, b, g, h, key } = last;
-    let passes = station.last(closing, a, b, g, h, key, elements, numbers)?;
+    let passes = station.last(closing, last.0, last.1, bases, elements, numbers)?;
     Ok(passes)
 }
 
@@ -77,22 +68,26 @@ pub fn two_rounds<K: Kind, M: Method>(
     station: &mut Station<K, M>,
     z: Pair<K>,
     rounds: [(Message<K>, u32); 2],
-    last: Last<K, K::Entry>,
+    bases: &Bases<K>,
+    last: (u32, u32),
     elements: &mut [K::Entry],
     numbers: &mut [u32],
 ) -> Result<bool, StationFault> {
     let opened = station.open(2, z.a, z.b)?;
-    play(station, opened, rounds, last, elements, numbers).map_err(|back| give_up(station, back))
+    play(station, opened, rounds, bases, last, elements, numbers).map_err(|back| give_up(
+        station, back,
+    ))
 }
 
 #[cfg(test)]
 mod tests {
-    use crate::{Last, two_rounds};
+    use crate::two_rounds;
     use kind::clear::Clear;
     use kind::kind::Kind;
     use kind::pair::Pair;
     use ledger::fault::StationFault;
     use ledger::parts::{Message, Page};
+    use method::bases::Bases;
     use method::fault::MethodFault;
     use method::halving::Halving;
     use station::state::Station;
@@ -125,14 +120,12 @@ mod tests {
             (message(28, 310, 32, 430), 6),
             (message(640, 6570, 759, 9440), c),
         ];
-        let last = Last {
-            a,
-            b: 790,
+        let bases = Bases {
             g: &lists,
             h: &lists,
             key: k,
         };
-        two_rounds(station, z, rounds, last, &mut [0; 4], numbers)
+        two_rounds(station, z, rounds, &bases, (a, 790), &mut [0; 4], numbers)
     }
 
     #[test]

@@ -15,6 +15,7 @@ use kind::checked::Checked;
 use kind::kind::Kind;
 use kind::side::Side;
 use ledger::parts;
+use method::bases::{Bases, CheckedBases};
 
 fn admit_claim<'a, K: Kind>(
     g: &'a [K::Entry],
@@ -61,33 +62,26 @@ fn admit_fold<K: Kind>(
 }
 
 // The claim call: Z1 and Z2 of l and r, over G, H and K. Refused by 5, 6, 11 and 12.
-pub fn claim<K: Kind>(
-    g: &[K::Entry],
-    h: &[K::Entry],
-    key: K,
-    l: &[u32],
-    r: &[u32],
-) -> Result<(K, K), WriterFault>
-    ensures { result ≡ claim_answer K.Kind.meaning g.now h.now key l.now r.now }
+pub fn claim<K: Kind>(bases: &Bases<K>, l: &[u32], r: &[u32]) -> Result<(K, K), WriterFault>
+    ensures { result ≡ claim_answer K.Kind.meaning bases.now.g.now bases.now.h.now bases.now.key l.now r.now }
 {
-    let (gs, hs) = admit_claim::<K>(g, h, l, r)?;
-    let z1 = gs.join_powers(l);
-    let z2 = commit_second(&hs, key, l, r);
+    let (g, h) = admit_claim::<K>(bases.g, bases.h, l, r)?;
+    let z1 = g.join_powers(l);
+    let z2 = commit_second(&h, bases.key, l, r);
     Ok((z1, z2))
 }
 
 // The message call: L1, L2, R1 and R2 of the lists. Refused by 5, 6, 7, 11 and 12.
 pub fn message<K: Kind>(
-    g: &[K::Entry],
-    h: &[K::Entry],
-    key: K,
+    bases: &Bases<K>,
     l: &[u32],
     r: &[u32],
 ) -> Result<parts::Message<K>, WriterFault>
-    ensures { result ≡ message_answer K.Kind.meaning g.now h.now key l.now r.now }
+    ensures { result ≡ message_answer K.Kind.meaning bases.now.g.now bases.now.h.now bases.now.key l.now r.now }
 {
-    let (gs, hs) = admit_message::<K>(g, h, l, r)?;
-    Ok(message_across(&gs, &hs, key, l, r))
+    let (g, h) = admit_message::<K>(bases.g, bases.h, l, r)?;
+    let key = bases.key;
+    Ok(message_across(&CheckedBases { g, h, key }, l, r))
 }
 
 // The fold call: all four lists folded by the challenge c, in their first halves; units and zeros stand in the last halves.

@@ -14,6 +14,7 @@ use kind::checked::Checked;
 use kind::kind::Kind;
 use kind::side::Side;
 use ledger::parts::Message;
+use method::bases::CheckedBases;
 
 // Two lists of one length, one behind the other.
 pub(crate) fn copy_rows<T: Copy>(a: &[T], b: &[T], work: &mut [T])
@@ -45,7 +46,7 @@ pub(crate) fn message_of_rows<K: Kind>(
     let (h, _) = second_elements.cut(m + m);
     let (l, _) = cut(numbers, m + m);
     let (r, _) = cut(second_numbers, m + m);
-    message_across(&g, &h, key, l, r)
+    message_across(&CheckedBases { g, h, key }, l, r)
 }
 
 // Folds the lists of 2m entries among the elements into lists of m.

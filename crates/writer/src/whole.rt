@@ -22,6 +22,7 @@ use kind::checked::Checked;
 use kind::entries::clear_entries;
 use kind::kind::Kind;
 use kind::written::WrittenKind;
+use method::bases::{Bases, CheckedBases};
 
 fn record_length(width: usize, k: usize) -> usize
     requires wide { width ≤ 64 }
@@ -73,20 +74,18 @@ fn admit_whole<'a, K: WrittenKind>(
 
 // The number of rounds and the claim.
 fn put_front<K: WrittenKind>(
-    g: &Checked<K>,
-    h: &Checked<K>,
-    key: K,
+    bases: &CheckedBases<K>,
     l: &[u32],
     r: &[u32],
     k: u8,
     out: &mut [u8],
 ) -> usize
-    requires long { AsLong (length g.now.entries.now) (length h.now.entries.now) (length l.now) (length r.now) }
+    requires long { AsLong (length bases.now.g.entries.now) (length bases.now.h.entries.now) (length l.now) (length r.now) }
     requires room { 1 + 2 * K.WrittenKind.writing.width ≤ length out.old }
-    ensures { Laid 0 (front_of K.Kind.meaning K.WrittenKind.writing key k (lists_of K.Kind.meaning g.now.entries.now h.now.entries.now l.now r.now)) out.old out.new result }
+    ensures { Laid 0 (front_of K.Kind.meaning K.WrittenKind.writing bases.now.key k (lists_of K.Kind.meaning bases.now.g.entries.now bases.now.h.entries.now l.now r.now)) out.old out.new result }
 {
-    let z1 = g.join_powers(l);
-    let z2 = commit_second(h, key, l, r);
+    let z1 = bases.g.join_powers(l);
+    let z2 = commit_second(&bases.h, bases.key, l, r);
     let first = put_byte(k, 0, out);
     let second = put_element(z1, first, out);
     put_element(z2, second, out)
@@ -95,9 +94,7 @@ fn put_front<K: WrittenKind>(
 // The record, written through work lists of just twice the length. The guard over the numbers, which hold secret scalars from
 // the first copy on, clears them on both ways out. Lists of one entry have no rounds, and G and H are not copied.
 fn write_record<K: WrittenKind>(
-    g: &Checked<K>,
-    h: &Checked<K>,
-    key: K,
+    bases: &CheckedBases<K>,
     l: &[u32],
     r: &[u32],
     cs: &[u32],
@@ -105,20 +102,28 @@ fn write_record<K: WrittenKind>(
     elements: &mut [K::Entry],
     numbers: &mut [u32],
 ) -> usize
-    requires { WritableLists K.WrittenKind.writing.width (length cs.now) (length g.now.entries.now) (length h.now.entries.now) (length l.now) (length r.now) (length out.old) (length elements.old) (length numbers.old) }
-    ensures out { Laid 0 (record_of K.Kind.meaning K.WrittenKind.writing key cs.now (lists_of K.Kind.meaning g.now.entries.now h.now.entries.now l.now r.now)) out.old out.new result }
+    requires { WritableLists K.WrittenKind.writing.width (length cs.now) (length bases.now.g.entries.now) (length bases.now.h.entries.now) (length l.now) (length r.now) (length out.old) (length elements.old) (length numbers.old) }
+    ensures out { Laid 0 (record_of K.Kind.meaning K.WrittenKind.writing bases.now.key cs.now (lists_of K.Kind.meaning bases.now.g.entries.now bases.now.h.entries.now l.now r.now)) out.old out.new result }
     ensures elements { elements.new ≡ replicate (length elements.old) (unit_entry K.Kind.meaning) }
     ensures numbers { numbers.new ≡ replicate (length numbers.old) 0 }
 {
     let guard = Scrub(numbers);
     copy_rows(l, r, &mut *guard.0);
-    let at = put_front(g, h, key, l, r, cs.len() as u8, out);
+    let at = put_front(bases, l, r, cs.len() as u8, out);
     if cs.is_empty() {
         clear_entries::<K>(elements);
         return put_last(guard.0[0], guard.0[1], at, out);
     }
-    copy_rows(g.entries, h.entries, elements);
-    let end = put_rounds::<K>(key, cs, g.entries.len(), elements, &mut *guard.0, at, out);
+    copy_rows(bases.g.entries, bases.h.entries, elements);
+    let end = put_rounds::<K>(
+        bases.key,
+        cs,
+        bases.g.entries.len(),
+        elements,
+        &mut *guard.0,
+        at,
+        out,
+    );
     clear_entries::<K>(elements);
     end
 }
@@ -127,9 +132,7 @@ fn write_record<K: WrittenKind>(
 // answers its length. Of the work lists, which need twice the length of G, the front that it used is units and zeros again.
 // Refused by 5, 6, 8, 11, 12 and 13; refused, it alters nothing.
 pub fn whole_proof<K: WrittenKind>(
-    g: &[K::Entry],
-    h: &[K::Entry],
-    key: K,
+    bases: &Bases<K>,
     l: &[u32],
     r: &[u32],
     challenges: &[u32],
@@ -137,14 +140,14 @@ pub fn whole_proof<K: WrittenKind>(
     work_elements: &mut [K::Entry],
     work_numbers: &mut [u32],
 ) -> Result<usize, WriterFault>
-    ensures answer { result ≡ whole_answer K.Kind.meaning K.WrittenKind.writing.width g.now h.now l.now r.now challenges.now (length out.old) (length work_elements.old) (length work_numbers.old) }
-    ensures out { out.new ≡ begun result (record_of K.Kind.meaning K.WrittenKind.writing key challenges.now (lists_of K.Kind.meaning g.now h.now l.now r.now)) out.old }
-    ensures elements { work_elements.new ≡ cleared result (length g.now + length g.now) (unit_entry K.Kind.meaning) work_elements.old }
-    ensures numbers { work_numbers.new ≡ cleared result (length g.now + length g.now) 0 work_numbers.old }
+    ensures answer { result ≡ whole_answer K.Kind.meaning K.WrittenKind.writing.width bases.now.g.now bases.now.h.now l.now r.now challenges.now (length out.old) (length work_elements.old) (length work_numbers.old) }
+    ensures out { out.new ≡ begun result (record_of K.Kind.meaning K.WrittenKind.writing bases.now.key challenges.now (lists_of K.Kind.meaning bases.now.g.now bases.now.h.now l.now r.now)) out.old }
+    ensures elements { work_elements.new ≡ cleared result (length bases.now.g.now + length bases.now.g.now) (unit_entry K.Kind.meaning) work_elements.old }
+    ensures numbers { work_numbers.new ≡ cleared result (length bases.now.g.now + length bases.now.g.now) 0 work_numbers.old }
 {
-    let (gs, hs) = admit_whole::<K>(
-        g,
-        h,
+    let (g, h) = admit_whole::<K>(
+        bases.g,
+        bases.h,
         l,
         r,
         challenges,
@@ -152,11 +155,14 @@ pub fn whole_proof<K: WrittenKind>(
         work_elements.len(),
         work_numbers.len(),
     )?;
-    let twice = g.len() + g.len();
+    let checked = CheckedBases {
+        g,
+        h,
+        key: bases.key,
+    };
+    let twice = bases.g.len() + bases.g.len();
     Ok(write_record(
-        &gs,
-        &hs,
-        key,
+        &checked,
         l,
         r,
         challenges,

@@ -17,6 +17,7 @@ use kind::kind::Kind;
 use kind::pair::Pair;
 use ledger::fault::StationFault;
 use ledger::parts::{Message, Numbers, Page, Sort, Stage};
+use method::bases::Bases;
 use method::commitments::fold_commitments;
 use method::fault::MethodFault;
 use method::method::Method;
@@ -69,22 +70,18 @@ fn ask_method<K: Kind, M: Method>(
     case: Case<K>,
     a: u32,
     b: u32,
-    g: &[K::Entry],
-    h: &[K::Entry],
-    key: K,
+    bases: &Bases<K>,
     work_elements: &mut [K::Entry],
     work_numbers: &mut [u32],
 ) -> Result<bool, MethodFault>
-    ensures answer { result ≡ case_answer K.Kind.meaning (case_of case) (last_of g.now h.now key a b (length work_elements.old) (length work_numbers.old)) }
+    ensures answer { result ≡ case_answer K.Kind.meaning (case_of case) (last_of bases.now.g.now bases.now.h.now bases.now.key a b (length work_elements.old) (length work_numbers.old)) }
     ensures elements { work_elements.new ≡ cleared result (2 ^ case.rounds) (unit_entry K.Kind.meaning) work_elements.old }
     ensures numbers { work_numbers.new ≡ cleared result (2 ^ case.rounds) 0 work_numbers.old }
 {
     method.verdict(
         &case.table,
         case.z,
-        g,
-        h,
-        key,
+        bases,
         a,
         b,
         work_elements,
@@ -234,14 +231,12 @@ impl<K: Kind, M: Method> Station<K, M> {
         t: Closing,
         a: u32,
         b: u32,
-        g: &[K::Entry],
-        h: &[K::Entry],
-        key: K,
+        bases: &Bases<K>,
         work_elements: &mut [K::Entry],
         work_numbers: &mut [u32],
     ) -> Result<bool, Back<Closing>>
-        ensures answer { last_answer result ≡ (step K.Kind.meaning (ledger_of self.old) (last_pair sort.Closing t.numbers (last_of g.now h.now key a b (length work_elements.old) (length work_numbers.old)))).answer }
-        ensures ledger { ledger_of self.new ≡ (step K.Kind.meaning (ledger_of self.old) (last_pair sort.Closing t.numbers (last_of g.now h.now key a b (length work_elements.old) (length work_numbers.old)))).ledger }
+        ensures answer { last_answer result ≡ (step K.Kind.meaning (ledger_of self.old) (last_pair sort.Closing t.numbers (last_of bases.now.g.now bases.now.h.now bases.now.key a b (length work_elements.old) (length work_numbers.old)))).answer }
+        ensures ledger { ledger_of self.new ≡ (step K.Kind.meaning (ledger_of self.old) (last_pair sort.Closing t.numbers (last_of bases.now.g.now bases.now.h.now bases.now.key a b (length work_elements.old) (length work_numbers.old)))).ledger }
         ensures kept { self.new.method ≡ self.old.method }
         ensures back { IfErr result (λ b. b.token ≡ t) }
         ensures elements { work_elements.new ≡ cleared result (2 ^ case_k (ledger_of self.old)) (unit_entry K.Kind.meaning) work_elements.old }
@@ -250,17 +245,7 @@ impl<K: Kind, M: Method> Station<K, M> {
         let Some(case) = self.current(Sort::Closing, t.numbers) else {
             return Err(Back::not_current(t));
         };
-        match ask_method(
-            &self.method,
-            case,
-            a,
-            b,
-            g,
-            h,
-            key,
-            work_elements,
-            work_numbers,
-        ) {
+        match ask_method(&self.method, case, a, b, bases, work_elements, work_numbers) {
             Ok(passes) => {
                 t.spend();
                 if passes {

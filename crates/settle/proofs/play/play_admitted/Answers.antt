@@ -23,19 +23,19 @@ untouched is x y = ap (λ (b : Answer). if_judged {F = WriterFault} (Ok b) x y) 
 
 pub open_case-requires : goal.open_case-requires
 open_case-requires g c =
-    claim_free g.K.Kind.meaning g.K.Kind.laws c.args.g.now c.args.h.now c.args.l.now c.args.r.now c.args.cs.now
+    claim_free g.K.Kind.meaning g.K.Kind.laws c.args.bases.now.g.now c.args.bases.now.h.now c.args.l.now c.args.r.now c.args.cs.now
     c.requires.ready.all_g c.requires.ready.all_h c.requires.playable
 
 pub returns-in-Token : goal.returns-in-Token
 returns-in-Token g c =
     let s = g.K.Kind.meaning in
     let u = unit_entry s in
-    let gs = c.args.g.now in
-    let hs = c.args.h.now in
+    let gs = c.args.bases.now.g.now in
+    let hs = c.args.bases.now.h.now in
     let l : List ℕ = c.args.l.now in
     let r : List ℕ = c.args.r.now in
     let cs : List ℕ = c.args.cs.now in
-    let key = c.args.key in
+    let key = c.args.bases.now.key in
     let t = c.in-Token.token in
     let l0 = ledger_of c.args.station.now in
     let z = claim_of s key (lists_of s gs hs l r) in
@@ -70,12 +70,12 @@ pub returns-in_default : goal.returns-in_default
 returns-in_default g c =
     let s = g.K.Kind.meaning in
     let u = unit_entry s in
-    let gs = c.args.g.now in
-    let hs = c.args.h.now in
+    let gs = c.args.bases.now.g.now in
+    let hs = c.args.bases.now.h.now in
     let l : List ℕ = c.args.l.now in
     let r : List ℕ = c.args.r.now in
     let cs : List ℕ = c.args.cs.now in
-    let key = c.args.key in
+    let key = c.args.bases.now.key in
     let l0 = ledger_of c.args.station.now in
     let z = claim_of s key (lists_of s gs hs l r) in
     let first = step s l0 (opening (length cs) z) in

@@ -31,7 +31,7 @@ lent (Err why) xs ys n u room is = part_same xs ys n is
 pub slice_bounds-play_admitted-end : goal.slice_bounds-play_admitted-end
 slice_bounds-play_admitted-end g c =
     let e = sym c.admit_play.ensures ∙ c.in_ok-admit_play.was in
-    let a = free g.K.Kind.meaning g.K.Kind.laws c.args.g.now c.args.h.now c.args.l.now c.args.r.now c.args.challenges.now
+    let a = free g.K.Kind.meaning g.K.Kind.laws c.args.bases.now.g.now c.args.bases.now.h.now c.args.l.now c.args.r.now c.args.challenges.now
     (length c.args.fold_g.now) (length c.args.fold_h.now) (length c.args.fold_l.now) (length c.args.fold_r.now) e in
     let fits = a.roomy.room_g in
     search rules
@@ -39,7 +39,7 @@ slice_bounds-play_admitted-end g c =
 pub slice_bounds-play_admitted-end-2 : goal.slice_bounds-play_admitted-end-2
 slice_bounds-play_admitted-end-2 g c =
     let e = sym c.admit_play.ensures ∙ c.in_ok-admit_play.was in
-    let a = free g.K.Kind.meaning g.K.Kind.laws c.args.g.now c.args.h.now c.args.l.now c.args.r.now c.args.challenges.now
+    let a = free g.K.Kind.meaning g.K.Kind.laws c.args.bases.now.g.now c.args.bases.now.h.now c.args.l.now c.args.r.now c.args.challenges.now
     (length c.args.fold_g.now) (length c.args.fold_h.now) (length c.args.fold_l.now) (length c.args.fold_r.now) e in
     let fits = a.roomy.room_g in
     search rules
@@ -47,7 +47,7 @@ slice_bounds-play_admitted-end-2 g c =
 pub slice_bounds-play_admitted-end-3 : goal.slice_bounds-play_admitted-end-3
 slice_bounds-play_admitted-end-3 g c =
     let e = sym c.admit_play.ensures ∙ c.in_ok-admit_play.was in
-    let a = free g.K.Kind.meaning g.K.Kind.laws c.args.g.now c.args.h.now c.args.l.now c.args.r.now c.args.challenges.now
+    let a = free g.K.Kind.meaning g.K.Kind.laws c.args.bases.now.g.now c.args.bases.now.h.now c.args.l.now c.args.r.now c.args.challenges.now
     (length c.args.fold_g.now) (length c.args.fold_h.now) (length c.args.fold_l.now) (length c.args.fold_r.now) e in
     let fits = a.roomy.room_h in
     search rules
@@ -55,7 +55,7 @@ slice_bounds-play_admitted-end-3 g c =
 pub slice_bounds-play_admitted-end-4 : goal.slice_bounds-play_admitted-end-4
 slice_bounds-play_admitted-end-4 g c =
     let e = sym c.admit_play.ensures ∙ c.in_ok-admit_play.was in
-    let a = free g.K.Kind.meaning g.K.Kind.laws c.args.g.now c.args.h.now c.args.l.now c.args.r.now c.args.challenges.now
+    let a = free g.K.Kind.meaning g.K.Kind.laws c.args.bases.now.g.now c.args.bases.now.h.now c.args.l.now c.args.r.now c.args.challenges.now
     (length c.args.fold_g.now) (length c.args.fold_h.now) (length c.args.fold_l.now) (length c.args.fold_r.now) e in
     let fits = a.roomy.room_h in
     search rules
@@ -63,7 +63,7 @@ slice_bounds-play_admitted-end-4 g c =
 pub slice_bounds-play_admitted-end-5 : goal.slice_bounds-play_admitted-end-5
 slice_bounds-play_admitted-end-5 g c =
     let e = sym c.admit_play.ensures ∙ c.in_ok-admit_play.was in
-    let a = free g.K.Kind.meaning g.K.Kind.laws c.args.g.now c.args.h.now c.args.l.now c.args.r.now c.args.challenges.now
+    let a = free g.K.Kind.meaning g.K.Kind.laws c.args.bases.now.g.now c.args.bases.now.h.now c.args.l.now c.args.r.now c.args.challenges.now
     (length c.args.fold_g.now) (length c.args.fold_h.now) (length c.args.fold_l.now) (length c.args.fold_r.now) e in
     let fits = a.roomy.room_l in
     search rules
@@ -71,7 +71,7 @@ slice_bounds-play_admitted-end-5 g c =
 pub slice_bounds-play_admitted-end-6 : goal.slice_bounds-play_admitted-end-6
 slice_bounds-play_admitted-end-6 g c =
     let e = sym c.admit_play.ensures ∙ c.in_ok-admit_play.was in
-    let a = free g.K.Kind.meaning g.K.Kind.laws c.args.g.now c.args.h.now c.args.l.now c.args.r.now c.args.challenges.now
+    let a = free g.K.Kind.meaning g.K.Kind.laws c.args.bases.now.g.now c.args.bases.now.h.now c.args.l.now c.args.r.now c.args.challenges.now
     (length c.args.fold_g.now) (length c.args.fold_h.now) (length c.args.fold_l.now) (length c.args.fold_r.now) e in
     let fits = a.roomy.room_l in
     search rules
@@ -79,7 +79,7 @@ slice_bounds-play_admitted-end-6 g c =
 pub slice_bounds-play_admitted-end-7 : goal.slice_bounds-play_admitted-end-7
 slice_bounds-play_admitted-end-7 g c =
     let e = sym c.admit_play.ensures ∙ c.in_ok-admit_play.was in
-    let a = free g.K.Kind.meaning g.K.Kind.laws c.args.g.now c.args.h.now c.args.l.now c.args.r.now c.args.challenges.now
+    let a = free g.K.Kind.meaning g.K.Kind.laws c.args.bases.now.g.now c.args.bases.now.h.now c.args.l.now c.args.r.now c.args.challenges.now
     (length c.args.fold_g.now) (length c.args.fold_h.now) (length c.args.fold_l.now) (length c.args.fold_r.now) e in
     let fits = a.roomy.room_r in
     search rules
@@ -87,16 +87,16 @@ slice_bounds-play_admitted-end-7 g c =
 pub slice_bounds-play_admitted-end-8 : goal.slice_bounds-play_admitted-end-8
 slice_bounds-play_admitted-end-8 g c =
     let e = sym c.admit_play.ensures ∙ c.in_ok-admit_play.was in
-    let a = free g.K.Kind.meaning g.K.Kind.laws c.args.g.now c.args.h.now c.args.l.now c.args.r.now c.args.challenges.now
+    let a = free g.K.Kind.meaning g.K.Kind.laws c.args.bases.now.g.now c.args.bases.now.h.now c.args.l.now c.args.r.now c.args.challenges.now
     (length c.args.fold_g.now) (length c.args.fold_h.now) (length c.args.fold_l.now) (length c.args.fold_r.now) e in
     let fits = a.roomy.room_r in
     search rules
 
 pub play_admitted-requires : goal.play_admitted-requires
 play_admitted-requires g c =
-    let n : ℕ = length c.args.g.now in
+    let n : ℕ = length c.args.bases.now.g.now in
     let e = sym c.admit_play.ensures ∙ c.in_ok-admit_play.was in
-    let a = free g.K.Kind.meaning g.K.Kind.laws c.args.g.now c.args.h.now c.args.l.now c.args.r.now c.args.challenges.now
+    let a = free g.K.Kind.meaning g.K.Kind.laws c.args.bases.now.g.now c.args.bases.now.h.now c.args.l.now c.args.r.now c.args.challenges.now
     (length c.args.fold_g.now) (length c.args.fold_h.now) (length c.args.fold_l.now) (length c.args.fold_r.now) e in
     record {
       ready = a.ready;
@@ -111,19 +111,19 @@ pub returns : goal.returns
 returns g c =
     let s = g.K.Kind.meaning in
     let u = unit_entry s in
-    let n : ℕ = length c.args.g.now in
+    let n : ℕ = length c.args.bases.now.g.now in
     let l0 = ledger_of c.args.station.now in
     let e = sym c.admit_play.ensures ∙ c.in_ok-admit_play.was in
-    let a = free g.K.Kind.meaning g.K.Kind.laws c.args.g.now c.args.h.now c.args.l.now c.args.r.now c.args.challenges.now
+    let a = free g.K.Kind.meaning g.K.Kind.laws c.args.bases.now.g.now c.args.bases.now.h.now c.args.l.now c.args.r.now c.args.challenges.now
     (length c.args.fold_g.now) (length c.args.fold_h.now) (length c.args.fold_l.now) (length c.args.fold_r.now) e in
     let told = c.play_admitted.ensures in
     let last = c.play_admitted.new in
     let x = c.play_admitted.result in
-    let first = opening_answer s l0 c.args.g.now c.args.h.now c.args.key c.args.l.now c.args.r.now c.args.challenges.now in
-    let after = final s l0 (calls_from s l0 c.args.g.now c.args.h.now c.args.key c.args.l.now c.args.r.now c.args.challenges.now) in
+    let first = opening_answer s l0 c.args.bases.now.g.now c.args.bases.now.h.now c.args.bases.now.key c.args.l.now c.args.r.now c.args.challenges.now in
+    let after = final s l0 (calls_from s l0 c.args.bases.now.g.now c.args.bases.now.h.now c.args.bases.now.key c.args.l.now c.args.r.now c.args.challenges.now) in
     let answer = told.answer in
     let passed : x ≡ Ok (Verdict true) → passed_if_opened first ≡ Verdict true = λ v. one_answer x (passed_if_opened first) (Verdict true) answer v in
-    let published = as_published s g.K.Kind.laws l0 c.args.g.now c.args.h.now c.args.key c.args.l.now c.args.r.now c.args.challenges.now a.playable in
+    let published = as_published s g.K.Kind.laws l0 c.args.bases.now.g.now c.args.bases.now.h.now c.args.bases.now.key c.args.l.now c.args.r.now c.args.challenges.now a.playable in
     record {
       answer = answer ∙ sym (went _ _ tt _ e refl);
       ledger = told.ledger;

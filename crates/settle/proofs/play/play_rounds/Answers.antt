@@ -17,7 +17,7 @@ judged a v x xs =
 
 pub loop-i-init : goal.loop-i-init
 loop-i-init g c =
-    let start = underway_start g.K.Kind.meaning c.args.key c.args.token c.args.g.now c.args.h.now c.args.fold_l.now c.args.fold_r.now c.args.cs.now
+    let start = underway_start g.K.Kind.meaning c.args.bases.now.key c.args.token c.args.bases.now.g.now c.args.bases.now.h.now c.args.fold_l.now c.args.fold_r.now c.args.cs.now
     c.requires.ready c.requires.playable c.args.fold_g.now c.args.fold_h.now c.requires.g c.requires.h (ledger_of c.args.station.now) in
     (start, refl)
 
@@ -52,7 +52,7 @@ play_round-requires g c =
     let m : ℕ = c.loop-i.m in
     let e : m - 0 ≡ m = omega arith in
     let lt : c.loop-i.i < length c.args.cs.now = omega arith in
-    next_free g.K.Kind.meaning c.args.key c.args.token (length c.args.g.now) _ c.args.cs.now c.loop-i.invariant.0 g.K.Kind.laws lt (m - 0) e
+    next_free g.K.Kind.meaning c.args.bases.now.key c.args.token (length c.args.bases.now.g.now) _ c.args.cs.now c.loop-i.invariant.0 g.K.Kind.laws lt (m - 0) e
 
 pub loop-i-preserved : goal.loop-i-preserved
 loop-i-preserved g c =
@@ -62,8 +62,8 @@ loop-i-preserved g c =
     let lt : c.loop-i.i < length c.args.cs.now = omega arith in
     let told = c.play_round.ensures in
     let last = c.play_round.new in
-    let x = lists_of s c.args.g.now c.args.h.now c.args.fold_l.now c.args.fold_r.now in (
-      underway_more s c.args.key c.args.token (length c.args.g.now) x c.args.cs.now c.loop-i.invariant.0 g.K.Kind.laws lt (m - 0) (m / 2) e refl
+    let x = lists_of s c.args.bases.now.g.now c.args.bases.now.h.now c.args.fold_l.now c.args.fold_r.now in (
+      underway_more s c.args.bases.now.key c.args.token (length c.args.bases.now.g.now) x c.args.cs.now c.loop-i.invariant.0 g.K.Kind.laws lt (m - 0) (m / 2) e refl
           (ledger_of last.station) last.g last.h _ _ _ _ last.l last.r _ _ _ _ told.ledger told.g told.h told.l told.r,
       told.kept ∙ c.loop-i.invariant.1,
     )
@@ -77,9 +77,9 @@ returns g c =
     let all : c.loop-i.i ≡ length c.args.cs.now = omega arith in
     let told = c.close_case.ensures in
     let a = c.close_case.result in
-    let x = lists_of s c.args.g.now c.args.h.now c.args.fold_l.now c.args.fold_r.now in
-    let end = underway_end s c.args.key c.args.token (length c.args.g.now) x c.args.cs.now c.loop-i.invariant.0
-    c.args.g.now c.args.h.now c.requires.ready.all_g c.requires.ready.all_h all in
+    let x = lists_of s c.args.bases.now.g.now c.args.bases.now.h.now c.args.fold_l.now c.args.fold_r.now in
+    let end = underway_end s c.args.bases.now.key c.args.token (length c.args.bases.now.g.now) x c.args.cs.now c.loop-i.invariant.0
+    c.args.bases.now.g.now c.args.bases.now.h.now c.requires.ready.all_g c.requires.ready.all_h all in
     record {
       answer = ap Ok (told.answer ∙ end.1);
       ledger = told.ledger ∙ end.0;

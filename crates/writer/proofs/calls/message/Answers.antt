@@ -5,10 +5,10 @@ use Rattle.writer.proofs.calls.message.Goals as goal
 
 pub message_across-requires : goal.message_across-requires
 message_across-requires g c =
-    let a = message_ready g.K.Kind.meaning g.K.Kind.laws c.args.g.now c.args.h.now c.args.l.now c.args.r.now
-    (sym c.admit_message.ensures.refused ∙ ap (λ r. and_then r (λ _. Ok tt)) c.in_ok-gs.was) in
-    let same_g = ap length c.in_ok-gs.ensures.g in
-    let same_h = ap length c.in_ok-gs.ensures.h in
+    let a = message_ready g.K.Kind.meaning g.K.Kind.laws c.args.bases.now.g.now c.args.bases.now.h.now c.args.l.now c.args.r.now
+    (sym c.admit_message.ensures.refused ∙ ap (λ r. and_then r (λ _. Ok tt)) c.in_ok-g.was) in
+    let same_g = ap length c.in_ok-g.ensures.g in
+    let same_h = ap length c.in_ok-g.ensures.h in
     record {
       long = record {
         long_h = omega (arith, a.0.long_h);

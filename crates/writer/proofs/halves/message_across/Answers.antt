@@ -6,7 +6,7 @@ use Rattle.writer.proofs.halves.message_across.Goals as goal
 pub join_powers-l1-requires : goal.join_powers-l1-requires
 join_powers-l1-requires g c =
     let p = c.requires.long in
-    let gs = c.args.g.now.entries.now in
+    let gs = c.args.bases.now.g.entries.now in
     let m : ℕ = length gs / 2 in
     let even = c.requires.even in
     long_last m c.args.l.now _ c.cut-3.ensures.back (omega (arith, p.long_l)) ∙ sym (long_first m gs _ c.cut.ensures.front (omega arith))
@@ -14,8 +14,8 @@ join_powers-l1-requires g c =
 pub commit_second-l2-requires : goal.commit_second-l2-requires
 commit_second-l2-requires g c =
     let p = c.requires.long in
-    let hs = c.args.h.now.entries.now in
-    let m : ℕ = length c.args.g.now.entries.now / 2 in
+    let hs = c.args.bases.now.h.entries.now in
+    let m : ℕ = length c.args.bases.now.g.entries.now / 2 in
     let even = c.requires.even in
     let r_first = long_first m c.args.r.now _ c.cut-4.ensures.front (omega (arith, p.long_r)) in
     record {
@@ -26,7 +26,7 @@ commit_second-l2-requires g c =
 pub join_powers-r1-requires : goal.join_powers-r1-requires
 join_powers-r1-requires g c =
     let p = c.requires.long in
-    let gs = c.args.g.now.entries.now in
+    let gs = c.args.bases.now.g.entries.now in
     let m : ℕ = length gs / 2 in
     let even = c.requires.even in
     long_first m c.args.l.now _ c.cut-3.ensures.front (omega (arith, p.long_l)) ∙ sym (long_last m gs _ c.cut.ensures.back (omega arith))
@@ -34,8 +34,8 @@ join_powers-r1-requires g c =
 pub commit_second-r2-requires : goal.commit_second-r2-requires
 commit_second-r2-requires g c =
     let p = c.requires.long in
-    let hs = c.args.h.now.entries.now in
-    let m : ℕ = length c.args.g.now.entries.now / 2 in
+    let hs = c.args.bases.now.h.entries.now in
+    let m : ℕ = length c.args.bases.now.g.entries.now / 2 in
     let even = c.requires.even in
     let r_last = long_last m c.args.r.now _ c.cut-4.ensures.back (omega (arith, p.long_r)) in
     record {
@@ -48,10 +48,10 @@ returns g c =
     let s = g.K.Kind.meaning in
     let q = s.order in
     let o = s.group in
-    let k = c.args.key in
+    let k = c.args.bases.now.key in
     let p = c.requires.long in
-    let gs = c.args.g.now.entries.now in
-    let hs = c.args.h.now.entries.now in
+    let gs = c.args.bases.now.g.entries.now in
+    let hs = c.args.bases.now.h.entries.now in
     let m : ℕ = length gs / 2 in
     let ga = entries_first s m gs _ c.cut.ensures.front (omega arith) in
     let gb = entries_last s m gs _ c.cut.ensures.back (omega arith) in

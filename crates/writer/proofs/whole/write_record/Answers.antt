@@ -13,8 +13,8 @@ use Rattle.writer.proofs.whole.write_record.Goals as goal
 pub put_last-requires : goal.put_last-requires
 put_last-requires g c =
     let s = g.K.Kind.meaning in
-    let x = lists_of s c.args.g.now.entries.now c.args.h.now.entries.now c.args.l.now c.args.r.now in
-    let l = front_long g.K.WrittenKind.writing g.met.K.WrittenKind.writes (length c.args.cs.now) (claim_of s c.args.key x) in
+    let x = lists_of s c.args.bases.now.g.entries.now c.args.bases.now.h.entries.now c.args.l.now c.args.r.now in
+    let l = front_long g.K.WrittenKind.writing g.met.K.WrittenKind.writes (length c.args.cs.now) (claim_of s c.args.bases.now.key x) in
     let at = c.put_front-at.ensures.to in
     let same = kept c.put_front-at.ensures in
     omega (arith, c.requires.room_out)
@@ -23,9 +23,9 @@ pub returns-then-is_empty : goal.returns-then-is_empty
 returns-then-is_empty g c =
     let s = g.K.Kind.meaning in
     let w = g.K.WrittenKind.writing in
-    let key = c.args.key in
+    let key = c.args.bases.now.key in
     let cs : List ℕ = c.args.cs.now in
-    let x = lists_of s c.args.g.now.entries.now c.args.h.now.entries.now c.args.l.now c.args.r.now in
+    let x = lists_of s c.args.bases.now.g.entries.now c.args.bases.now.h.entries.now c.args.l.now c.args.r.now in
     let none : length cs ≡ 0 = search rules in
     let one : length c.args.l.now ≡ 1 = c.requires.long.long_l ∙ c.requires.size ∙ ap (λ (k : ℕ). 2 ^ k) none in
     let rest = subst (λ bs. Laid c.put_front-at.result bs c.put_front-at.new.out c.put_last.new.out c.put_last.result)
@@ -39,14 +39,14 @@ returns-then-is_empty g c =
 pub put_rounds-end-requires : goal.put_rounds-end-requires
 put_rounds-end-requires g c =
     let s = g.K.Kind.meaning in
-    let a = c.args.g.now.entries.now in
-    let b = c.args.h.now.entries.now in
+    let a = c.args.bases.now.g.entries.now in
+    let b = c.args.bases.now.h.entries.now in
     let x = lists_of s a b c.args.l.now c.args.r.now in
-    let l = front_long g.K.WrittenKind.writing g.met.K.WrittenKind.writes (length c.args.cs.now) (claim_of s c.args.key x) in
+    let l = front_long g.K.WrittenKind.writing g.met.K.WrittenKind.writes (length c.args.cs.now) (claim_of s c.args.bases.now.key x) in
     let at = c.put_front-at.ensures.to in
     let same = kept c.put_front-at.ensures in
     record {
-      checked = subst (AllElements s) (sym c.copy_rows-2.ensures) (all_append s a b c.args.g.now.checked c.args.h.now.checked);
+      checked = subst (AllElements s) (sym c.copy_rows-2.ensures) (all_append s a b c.args.bases.now.g.checked c.args.bases.now.h.checked);
       elements = omega (arith, c.requires.room_elements);
       numbers = omega (arith, c.requires.room_numbers);
       size = c.requires.size;
@@ -57,10 +57,10 @@ pub returns : goal.returns
 returns g c =
     let s = g.K.Kind.meaning in
     let w = g.K.WrittenKind.writing in
-    let key = c.args.key in
+    let key = c.args.bases.now.key in
     let cs : List ℕ = c.args.cs.now in
-    let a = c.args.g.now.entries.now in
-    let b = c.args.h.now.entries.now in
+    let a = c.args.bases.now.g.entries.now in
+    let b = c.args.bases.now.h.entries.now in
     let x = lists_of s a b c.args.l.now c.args.r.now in
     let lists = copied s (length a) a b c.copy_rows-2.new.work c.args.l.now c.args.r.now c.copy_rows.new.work
     c.copy_rows-2.ensures c.copy_rows.ensures refl c.requires.long.long_h c.requires.long.long_l c.requires.long.long_r in

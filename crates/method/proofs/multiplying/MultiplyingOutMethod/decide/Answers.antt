@@ -15,8 +15,8 @@ returns g c =
     let laws = g.K.Kind.laws.group in
     let cs : List ℕ = c.args.cs.now in
     let rs : List ℕ = reduced s cs in
-    let gs = c.args.g.now.entries.now in
-    let hs = c.args.h.now.entries.now in
+    let gs = c.args.bases.now.g.entries.now in
+    let hs = c.args.bases.now.h.entries.now in
     let long : length rs ≡ length cs = length-map cs (λ x. x % s.order) in
     let pw = ap (λ (n : ℕ). 2 ^ n) (sym long) in
     let ws : List ℕ = c.fill_weights.new.ws in
@@ -26,4 +26,4 @@ returns g c =
     c.join_powers-x.ensures ∙ ap (product o (elements s gs)) c.reverse.ensures.after ∙ sym (ap (λ l. get_or l 0 o.unit) out_g.1) in
     let y : c.join_powers-y.result ≡ last_h s.order o rs (elements s hs) =
     c.join_powers-y.ensures ∙ sym (ap (λ l. get_or l 0 o.unit) out_h.0) in
-    c.passes.ensures ∙ ap₂ (λ u v. passes s c.args.z c.args.key u v c.args.a c.args.b) x y
+    c.passes.ensures ∙ ap₂ (λ u v. passes s c.args.z c.args.bases.now.key u v c.args.a c.args.b) x y
