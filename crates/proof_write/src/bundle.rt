@@ -9,7 +9,7 @@ use crate::hex::push_hex;
 use kind::bytes::cut;
 use std::alloc::{AllocError, Global};
 
-// The records, and the length of each.
+// The records as the file has them, one behind the other, and the length of each: a list of records would be joined again.
 #[derive(Drop)]
 pub struct Bundle {
     pub lengths: Vec<usize>,
@@ -39,49 +39,33 @@ impl Bundle {
     }
 }
 
-// The four low bytes of a number, the highest first.
-fn four_bytes(n: usize) -> [u8; 4]
-    ensures { result ≡ bytes_of n }
-{
-    [
-        (n / 16_777_216 % 256) as u8,
-        (n / 65_536 % 256) as u8,
-        (n / 256 % 256) as u8,
-        (n % 256) as u8,
-    ]
-}
-
 // Writes a record's offset and length behind what is there.
-fn push_pair(out: &mut Vec<u8>, offset: usize, size: usize) -> Result<(), AllocError>
+fn push_pair(out: &mut Vec<u8>, offset: u32, size: u32) -> Result<(), AllocError>
     ensures { OnOk result (out.new.items ≡ out.old.items ++ (bytes_of offset ++ bytes_of size)) }
 {
-    out.extend_from_slice(&four_bytes(offset))?;
-    out.extend_from_slice(&four_bytes(size))?;
-    Ok(())
+    out.extend_from_slice(&offset.to_be_bytes())?;
+    out.extend_from_slice(&size.to_be_bytes())
 }
 
 // The directory of records of these lengths, without gaps; None where the count or an offset does not fit.
 pub fn directory(heap: Global, lengths: &[usize]) -> Result<Option<Vec<u8>>, AllocError>
     ensures { IfOk result (λ o. option_map vec_items o ≡ directory_of lengths.now) }
 {
-    let count = lengths.len();
-    if count > 65_535 {
+    let Ok(count) = u16::try_from(lengths.len()) else {
         return Ok(None);
-    }
-    let mut offset = 2 + 8 * count;
+    };
+    let mut offset = 2 + 8 * u32::from(count);
     let mut out = Vec::new(heap);
-    out.push((count / 256) as u8)?;
-    out.push((count % 256) as u8)?;
-    for i in 0..count {
-        let size = lengths[i];
+    out.extend_from_slice(&count.to_be_bytes())?;
+    for length in lengths {
+        let Ok(size) = u32::try_from(*length) else {
+            return Ok(None);
+        };
         push_pair(&mut out, offset, size)?;
         let Some(next) = offset.checked_add(size) else {
             return Ok(None);
         };
         offset = next;
-    }
-    if offset > 4_294_967_295 {
-        return Ok(None);
     }
     Ok(Some(out))
 }
@@ -91,8 +75,8 @@ pub fn push_lines(out: &mut Vec<u8>, lengths: &[usize], records: &[u8]) -> Resul
     ensures { OnOk result (out.new.items ≡ out.old.items ++ hex_lines lengths.now records.now) }
 {
     let mut rest = records;
-    for i in 0..lengths.len() {
-        let (record, behind) = cut(rest, lengths[i]);
+    for length in lengths {
+        let (record, behind) = cut(rest, *length);
         push_hex(out, record)?;
         out.push(b'\n')?;
         rest = behind;
