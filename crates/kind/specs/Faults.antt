@@ -1,5 +1,5 @@
 -- Steps that can be refused, and what each of the kind's faults tells. Assumes nothing.
-use Rattle.std.specs.Prelude.{ℕ, ◌+◌, Bool, cond, List, [], ◌∷◌, Ok, Err, Result}
+use Rattle.std.specs.Prelude.{ℕ, ◌+◌, Bool, cond, List, [], ◌∷◌, Ok, Err, Result, codes}
 use Rattle.kind.specs.declared.fault.KindFault.{KindFault}
 use Rattle.kind.specs.declared.fault.KindFault.TheVariants.{Length, NotAnElement, NotAScalar}
 use Rattle.kind.specs.declared.fault.Layer.{Layer}
@@ -38,3 +38,12 @@ abbrev pub kind_refusal : KindFault → Refusal
 kind_refusal (Length n) = refusal_of 6 layer.Kind n
 kind_refusal (NotAnElement i) = refusal_of 11 layer.Kind i
 kind_refusal (NotAScalar i) = refusal_of 12 layer.Kind i
+
+-- a layer's name as it is printed
+abbrev pub layer_text : Layer → List ℕ
+layer_text layer.Kind = codes "kind"
+layer_text layer.Method = codes "method"
+layer_text layer.Writer = codes "writer"
+layer_text layer.Station = codes "station"
+layer_text layer.Record = codes "record"
+layer_text layer.Bundle = codes "bundle"

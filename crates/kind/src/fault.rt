@@ -1,6 +1,8 @@
 // What a fault tells, and the kind's own faults.
-ghost use Rattle.std.specs.Prelude.{◌≡◌};
-ghost use Rattle.kind.specs.Faults.{kind_refusal};
+ghost use Rattle.std.specs.Prelude.{◌≡◌, Some};
+ghost use Rattle.kind.specs.Faults.{kind_refusal, layer_text};
+
+use std::fmt;
 
 // The layer in which a fault arose.
 #[derive(Clone, Copy, PartialEq, Eq, Debug)]
@@ -11,6 +13,21 @@ pub enum Layer {
     Station,
     Record,
     Bundle,
+}
+
+impl fmt::Display for Layer {
+    ghost output = { λ layer. Some (layer_text layer) };
+
+    fn fmt<W: fmt::Write>(&self, f: &mut fmt::Formatter<W>) -> fmt::Result {
+        f.write_str(match self {
+            Layer::Kind => "kind",
+            Layer::Method => "method",
+            Layer::Writer => "writer",
+            Layer::Station => "station",
+            Layer::Record => "record",
+            Layer::Bundle => "bundle",
+        })
+    }
 }
 
 // A numbered refusal: its number, the layer where it arose, and the place there.
