@@ -3,3 +3,4 @@ pub mod Ledger
 pub mod Rules
 pub mod Promise
 pub mod Script
+pub mod Printed
