@@ -53,11 +53,13 @@ fn serve<K: Kind<Entry = u32>, M: Method + Drop>(
 
 fn run(rt: &HostRuntime, text: &[u8]) -> io::Result<()> {
     let mut lines = Lines::from(text);
-    let Some(Header {
-        number,
-        kind,
-        method,
-    }) = lines.next().and_then(Header::read)
+    let Some(
+        Header {
+            number,
+            kind,
+            method,
+        },
+    ) = lines.next().and_then(Header::read)
     else {
         return println!(rt; "line 1: not a call");
     };

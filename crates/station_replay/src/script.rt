@@ -1,4 +1,7 @@
 // The lines of a script: what they say, and the calls that they make.
+ghost use Rattle.station_replay.specs.Names.{kind_word, method_word, Named, NamedIf};
+ghost use Rattle.ledger.specs.Printed.{sort_text};
+
 use kind::bytes::cut;
 use kind::fault::KindFault;
 use kind::kind::Kind;
@@ -19,6 +22,8 @@ pub enum KindName {
 impl TryFrom<&[u8]> for KindName {
     type Error = OtherWord;
 
+    ghost try_from_gives = { λ word r. Named kind_word word.now r };
+
     fn try_from(word: &[u8]) -> Result<KindName, OtherWord> {
         match word {
             b"clear" => Ok(KindName::Clear),
@@ -36,6 +41,8 @@ pub enum MethodName {
 
 impl TryFrom<&[u8]> for MethodName {
     type Error = OtherWord;
+
+    ghost try_from_gives = { λ word r. Named method_word word.now r };
 
     fn try_from(word: &[u8]) -> Result<MethodName, OtherWord> {
         match word {
@@ -95,8 +102,10 @@ pub enum Said {
     Turn,
 }
 
-// A function, since the sort of a token is the ledger's own type.
-fn sort_of(word: &[u8]) -> Option<Sort> {
+// What prints as this word. A function, since the sort of a token is the ledger's own type.
+fn sort_of(word: &[u8]) -> Option<Sort>
+    ensures { NamedIf sort_text word.now result }
+{
     match word {
         b"waiting" => Some(Sort::Waiting),
         b"heard" => Some(Sort::Heard),
