@@ -1,9 +1,9 @@
 -- Bytes laid one behind the other. Assumes nothing.
-use Rattle.std.proofs.Common.{◌≡◌, ℕ, ◌+◌, ◌^◌, ◌<◌, ◌≤◌, ltb, List, [], ◌∷◌, ◌++◌, length, get_or, drop, Some, None, Ok, Err, Result, OnOk, sym, ap, ◌∙◌}
+use Rattle.std.proofs.Common.{◌≡◌, ℕ, ◌+◌, ◌^◌, ◌<◌, ◌≤◌, ltb, List, [], ◌++◌, length, drop, Some, Ok, Err, Result, OnOk, sym, ap, ◌∙◌}
 use Rattle.std.specs.Bool.{if◌then◌else◌}
 use Rattle.std.specs.Result.{is_ok}
-use Rattle.std.proofs.lemmas.List.{append_assoc, append-nil, drop_more, drop_all}
-use Rattle.std.proofs.lemmas.Bool.{cond-true, cond-false, and_left, and_right, and_from, lt-ltb, le-ltb}
+use Rattle.std.proofs.lemmas.List.{append_assoc, append-nil, drop_all}
+use Rattle.std.proofs.lemmas.Bool.{cond-true, and_from, lt-ltb}
 use Rattle.proof_write.specs.Bundle.{total, directory_end, directory_bytes, directory_of}
 
 -- F says what entries are written as: the end of a loop
@@ -19,9 +19,6 @@ laid_two out mid next u v x y p q e f = let s = append_assoc out x y in cc
 pub if_written : {T E : Type 0} (r : Result T E) (next all none : List ℕ) → next ≡ (if is_ok r then all else none) → OnOk r (next ≡ all)
 if_written (Ok x) next all none h = h
 if_written (Err e) next all none h = tt
-
-pub total_all : (ns : List ℕ) (i : ℕ) → length ns ≤ i → total (drop i ns) ≡ 0
-total_all ns i h = ap total (drop_all i ns h)
 
 module _ (ns : List ℕ) where
   pub directory_is : length ns < 2 ^ 16 → directory_end (length ns) + total ns < 2 ^ 32 → Some (directory_bytes ns) ≡ directory_of ns

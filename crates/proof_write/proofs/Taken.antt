@@ -1,11 +1,9 @@
 -- Words and lines taken one by one. Assumes nothing.
-use Rattle.std.proofs.Common.{◌≡◌, ℕ, suc, ◌+◌, ◌<◌, ◌≤◌, Bool, true, false, cond, eqb, List, [], ◌∷◌, ◌++◌, length, take, drop, Some, None, Option, unwrap_or, sym, refl, ap, ◌∙◌, arith}
-use Rattle.std.proofs.lemmas.List.{append_assoc, append-nil, length-drop}
-use Rattle.std.proofs.lemmas.Bool.{cond_both, cond-true, cond-false, eqb-true, eqb-false, eq-eqb, ne_eqb}
+use Rattle.std.proofs.Common.{◌≡◌, ℕ, suc, ◌+◌, Bool, true, false, cond, eqb, List, [], ◌∷◌, ◌++◌, length, take, drop, Some, None, Option, sym, refl, ap, ◌∙◌, arith}
+use Rattle.std.proofs.lemmas.List.{append_assoc}
+use Rattle.std.proofs.lemmas.Bool.{cond-true, cond-false, eqb-true, eqb-false, eq-eqb, ne_eqb}
 use Rattle.std.specs.Str.{bytes_eq}
-use Rattle.text.specs.Words.{count_before, front_of, rest_of, number_of, next_word, behind_word, line_size}
-use Rattle.text.specs.Lines.{next_line, behind_line}
-use Rattle.text.proofs.Scans.{count_low}
+use Rattle.text.specs.Words.{count_before, front_of, rest_of, number_of, next_word, behind_word}
 use Rattle.proof_write.specs.Groups.{begun, words_of, words_left, in_front, numbers_of, behind_name, numbers_in}
 
 eqb_suc : (m n : ℕ) → eqb (suc m) (suc n) ≡ eqb m n

@@ -7,7 +7,7 @@ mod hex;
 mod prove;
 mod stop;
 
-use crate::bundle::{Bundle, directory, push_lines};
+use crate::bundle::{directory, push_lines};
 use crate::hex::push_hex;
 use crate::prove::prove_all;
 use crate::stop::Stop;
@@ -36,20 +36,23 @@ fn wanted_output(rt: &HostRuntime) -> io::Result<Option<Output>> {
 
 // Writes the bundle's bytes, or its directory and its records in lines of hexadecimal digits. A text within the limit has
 // too few groups for a bundle that is too long.
-fn write_bundle(rt: &HostRuntime, bundle: &Bundle, output: Output) -> io::Result<()> {
-    let Some(front) = directory(rt.alloc(), &bundle.lengths)? else {
+fn write_bundle(rt: &HostRuntime, records: &[Vec<u8>], output: Output) -> io::Result<()> {
+    let Some(front) = directory(rt.alloc(), records)? else {
         return println!(rt; "bundle too long");
     };
     match output {
         Output::Bytes => {
             rt.stdout().write_all(&front)?;
-            rt.stdout().write_all(&bundle.records)
+            for record in records {
+                rt.stdout().write_all(record)?;
+            }
+            Ok(())
         }
         Output::Hex => {
             let mut digits = Vec::new(rt.alloc());
             push_hex(&mut digits, &front)?;
             digits.push(b'\n')?;
-            push_lines(&mut digits, &bundle.lengths, &bundle.records)?;
+            push_lines(&mut digits, records)?;
             rt.stdout().write_all(&digits)
         }
     }
@@ -57,7 +60,7 @@ fn write_bundle(rt: &HostRuntime, bundle: &Bundle, output: Output) -> io::Result
 
 fn run(rt: &HostRuntime, text: &[u8], output: Output) -> io::Result<()> {
     match prove_all(rt.alloc(), text) {
-        Ok(bundle) => write_bundle(rt, &bundle, output),
+        Ok(records) => write_bundle(rt, &records, output),
         Err(Stop::Memory(e)) => Err(e.into()),
         Err(stop) => println!(rt; "{stop}"),
     }

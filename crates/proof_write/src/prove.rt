@@ -4,7 +4,6 @@ ghost use Rattle.kind.specs.Bench.{bench_entries};
 ghost use Rattle.kind.specs.Clears.{clear_meaning};
 ghost use Rattle.proof_write.specs.Proofs.{record_over, group_record};
 
-use crate::bundle::Bundle;
 use crate::groups::{Group, Groups};
 use crate::stop::Stop;
 use kind::bench::fill_bench;
@@ -67,17 +66,16 @@ fn record_of(heap: Global, group: &Group, number: usize) -> Result<Vec<u8>, Stop
     Ok(out)
 }
 
-// The bundle of all groups of a text, or what comes first in it that stops this.
-pub fn prove_all(heap: Global, text: &[u8]) -> Result<Bundle, Stop> {
+// The records of all groups of a text, or what comes first in it that stops this.
+pub fn prove_all(heap: Global, text: &[u8]) -> Result<Vec<Vec<u8>>, Stop> {
     let mut groups = Groups::all(text);
-    let mut bundle = Bundle::new(heap);
+    let mut records = Vec::new(heap);
     loop {
         let group = groups.group(heap)?;
-        let number = bundle.lengths.len().saturating_add(1);
-        let record = record_of(heap, &group, number)?;
-        bundle.add(&record)?;
+        let number = records.len().saturating_add(1);
+        records.push(record_of(heap, &group, number)?)?;
         if groups.is_empty() {
-            return Ok(bundle);
+            return Ok(records);
         }
     }
 }

@@ -1,10 +1,10 @@
 // Why there is no bundle.
-ghost use Rattle.std.specs.Prelude.{◌≡◌, Some};
+ghost use Rattle.std.specs.Prelude.{◌≡◌, Some, alloc_error};
 ghost use Rattle.proof_write.specs.Stops.{stop_text};
 ghost use Rattle.proof_write.specs.declared.stop.Stop.TheVariants.{Memory};
 
 use kind::fault::Refusal;
-use std::alloc::AllocError;
+use std::alloc::{AllocError, AllocFailed};
 use std::error::Error;
 use std::fmt;
 use writer::fault::WriterFault;
@@ -41,5 +41,13 @@ impl From<AllocError> for Stop {
 
     fn from(e: AllocError) -> Stop {
         Stop::Memory(e)
+    }
+}
+
+impl<T: Drop> From<AllocFailed<T>> for Stop {
+    ghost from_gives = { λ _ stop. stop ≡ Memory alloc_error };
+
+    fn from(e: AllocFailed<T>) -> Stop {
+        Stop::Memory(AllocError::from(e))
     }
 }

@@ -1,14 +1,18 @@
-use Rattle.std.proofs.Common.{Some, refl, ap, vec_items, ◌∙◌, arith}
-use Rattle.proof_write.specs.Bundle.{pairs_from, directory_bytes}
-use Rattle.proof_write.proofs.Lays.{laid_all, total_all, directory_is}
+use Rattle.std.proofs.Common.{◌≡◌, map, drop, Some, refl, ap, vec_items, vec_len, ◌∙◌, arith}
+use Rattle.std.proofs.lemmas.List.{length-map, drop_all}
+use Rattle.proof_write.specs.Bundle.{total, pairs_from, directory_bytes}
+use Rattle.proof_write.proofs.Lays.{laid_all, directory_is}
 use Rattle.proof_write.proofs.bundle.directory.Goals as goal
 
 pub returns : goal.returns
 returns c =
-    let ns = c.args.lengths.now in
+    let rs = c.args.records.now in
+    let count = length-map rs vec_len in
+    let done : total (map vec_len (drop c.loop-record.record-index rs)) ≡ 0 =
+    ap (λ xs. total (map vec_len xs)) (drop_all c.loop-record.record-index rs c.loop-record-test.false) in
     let e =
-    laid_all (pairs_from c.loop-length.offset) ns (directory_bytes ns) c.loop-length.length-index (vec_items c.loop-length.out)
-    c.loop-length-test.false refl c.loop-length.invariant.1 in
+    laid_all (λ xs. pairs_from c.loop-record.offset (map vec_len xs)) rs (directory_bytes (map vec_len rs)) c.loop-record.record-index
+    (vec_items c.loop-record.out) c.loop-record-test.false refl c.loop-record.invariant.1 in
     ap Some e
-    ∙ directory_is ns (omega (arith, c.in-Ok.ensures))
-    (omega (arith, c.loop-length.invariant.0, c.loop-length.invariant.2, total_all ns c.loop-length.length-index c.loop-length-test.false))
+    ∙ directory_is (map vec_len rs) (omega (arith, count, c.in-Ok.ensures))
+    (omega (arith, count, done, c.loop-record.invariant.0, c.loop-record.invariant.2))
