@@ -34,6 +34,7 @@ fn report(rt: &HostRuntime, file: &[u8]) -> io::Result<()> {
     let mut numbers = vec![in rt.alloc(); 0u32; 256]?;
     let mut passed = 0u32;
     let mut failed = 0u32;
+    // A rule of the project: let .. else takes the reader's answer apart, and none ends the loop.
     loop {
         let Some(answer) = records.check_next::<Clear, Halving>(
             &Halving,
