@@ -8,31 +8,18 @@ use kind::clear::Clear;
 use kind::kind::Kind;
 use method::halving::Halving;
 use std::io;
-use std::io::Read;
+use text::input::read_all;
 
-const LIMIT: usize = 65_536;
+const LIMIT: u32 = 65_536;
 
-// The whole input, or None where it is longer than the limit.
-fn input(rt: &HostRuntime) -> io::Result<Option<Vec<u8>>> {
-    let mut all = Vec::new(rt.alloc());
-    rt.stdin().take(LIMIT as u64 + 1).read_to_end(&mut all)?;
-    if all.len() > LIMIT {
-        Ok(None)
-    } else {
-        Ok(Some(all))
-    }
-}
-
+// The directory counts as record 0.
 fn print_fault(rt: &HostRuntime, fault: BundleFault) -> io::Result<()> {
     let number = fault.refusal().number;
-    match fault {
-        BundleFault::Directory(place) => println!(rt; "fault {number} record 0 place {place}"),
-        BundleFault::Record(inner, index) => {
-            let record = index.saturating_add(1);
-            let place = inner.place();
-            println!(rt; "fault {number} record {record} place {place}")
-        }
-    }
+    let (record, place) = match fault {
+        BundleFault::Directory(place) => (0, place),
+        BundleFault::Record(inner, index) => (index.saturating_add(1), inner.place()),
+    };
+    println!(rt; "fault {number} record {record} place {place}")
 }
 
 // Checks record after record, and prints each verdict, then the sums; a fault ends it.
@@ -47,6 +34,7 @@ fn report(rt: &HostRuntime, file: &[u8]) -> io::Result<()> {
     let mut numbers = vec![in rt.alloc(); 0u32; 256]?;
     let mut passed = 0u32;
     let mut failed = 0u32;
+    // A rule of the project: let .. else takes the reader's answer apart, and none ends the loop.
     loop {
         let Some(answer) = records.check_next::<Clear, Halving>(
             &Halving,
@@ -75,7 +63,7 @@ fn report(rt: &HostRuntime, file: &[u8]) -> io::Result<()> {
 }
 
 fn main(rt: HostRuntime) -> io::Result<()> {
-    match input(&rt)? {
+    match read_all(rt.alloc(), rt.stdin(), LIMIT)? {
         None => println!(rt; "input too long"),
         Some(file) => report(&rt, &file),
     }

@@ -1,26 +1,10 @@
 -- Words and lines taken one by one. Assumes nothing.
-use Rattle.std.proofs.Common.{◌≡◌, ℕ, suc, ◌+◌, ◌<◌, ◌≤◌, Bool, true, false, cond, eqb, List, [], ◌∷◌, ◌++◌, length, take, drop, Some, None, Option, unwrap_or, sym, refl, ap, ◌∙◌, arith}
-use Rattle.std.proofs.lemmas.List.{append_assoc, append-nil, length-drop}
-use Rattle.std.proofs.lemmas.Bool.{cond_both, cond-true, cond-false, eqb-true, eqb-false, eq-eqb, ne_eqb}
+use Rattle.std.proofs.Common.{◌≡◌, ℕ, suc, ◌+◌, Bool, true, false, cond, eqb, List, [], ◌∷◌, ◌++◌, length, take, drop, Some, None, Option, sym, refl, ap, ◌∙◌, arith}
+use Rattle.std.proofs.lemmas.List.{append_assoc}
+use Rattle.std.proofs.lemmas.Bool.{cond-true, cond-false, eqb-true, eqb-false, eq-eqb, ne_eqb}
 use Rattle.std.specs.Str.{bytes_eq}
 use Rattle.text.specs.Words.{count_before, front_of, rest_of, number_of, next_word, behind_word}
-use Rattle.text.proofs.Scans.{count_low}
-use Rattle.proof_write.specs.Groups.{begun, words_of, words_left, in_front, numbers_of, behind_name, numbers_in, next_line, behind_line}
-
--- how much is left of a line, one more than its bytes
-abbrev pub size_left : Option (List ℕ) → ℕ
-size_left None = 0
-size_left (Some bs) = suc (length bs)
-
-pub rest_size : (mark : ℕ) (bs : List ℕ) → size_left (rest_of mark bs) ≤ length bs
-rest_size mark bs =
-    cond_both (eqb (count_before mark bs) (length bs)) None (Some (drop (count_before mark bs + 1) bs)) (λ o. size_left o ≤ length bs)
-    (λ e. omega arith)
-    (λ e.
-    let other = eqb-false (count_before mark bs) (length bs) e in
-    let low = count_low mark bs in
-    simp length-drop (omega arith)
-    )
+use Rattle.proof_write.specs.Groups.{begun, words_of, words_left, in_front, numbers_of, behind_name, numbers_in}
 
 eqb_suc : (m n : ℕ) → eqb (suc m) (suc n) ≡ eqb m n
 eqb_suc m n = go (eqb m n) refl
@@ -54,15 +38,6 @@ pub word_more : (o left : Option (List ℕ)) (w : List ℕ) → Some w ≡ next_
 word_more None left w p q = cc
 word_more (Some line) left w p q = let s = words_step line in let e : w ≡ front_of 32 line = cc in cc
 
-pub word_less : (o left : Option (List ℕ)) (w : List ℕ) → Some w ≡ next_word o → left ≡ behind_word o → size_left left < size_left o
-word_less None left w p q = let no : ◌≡◌ {A = ℕ} 0 1 = cc in omega arith
-word_less (Some line) left w p q =
-    let s : size_left left ≡ size_left (rest_of 32 line) = ap size_left q in omega (arith, rest_size 32 line)
-
-pub word_none : (o : Option (List ℕ)) → None ≡ next_word o → words_left o ≡ []
-word_none None p = refl
-word_none (Some line) p = cc
-
 -- numbers read so far, with those yet to come
 abbrev pub behind_read : List ℕ → Option (List ℕ) → Option (List ℕ)
 behind_read ns None = None
@@ -89,10 +64,6 @@ module _ (t : Option (List ℕ)) where
       let step : numbers_of (words_left o) ≡ in_front (number_of w) (numbers_of (words_left left)) = ap numbers_of (word_more o left w p q) in
       ap (λ k. behind_read ns (in_front k (numbers_of (words_left left)))) number ∙ ap (behind_read ns) (sym step) ∙ s
 
-  pub read_all : (o : Option (List ℕ)) (ns : List ℕ) → None ≡ next_word o → behind_read ns (numbers_of (words_left o)) ≡ t → Some ns ≡ t
-  read_all o ns p s =
-      ap Some (sym (append-nil ns)) ∙ ap (λ ws. behind_read ns (numbers_of ws)) (sym (word_none o p)) ∙ s
-
 pub named : (line name w : List ℕ) (left : Option (List ℕ)) → Some w ≡ next_word (Some line) → left ≡ behind_word (Some line)
     → bytes_eq w name ≡ true → numbers_of (words_left left) ≡ numbers_in name line
 named line name w left p q e =
@@ -102,17 +73,3 @@ pub unnamed : (line name w : List ℕ) (left : Option (List ℕ)) → Some w ≡
     → bytes_eq w name ≡ false → None ≡ numbers_in name line
 unnamed line name w left p q e =
     sym (ap (behind_name name) (word_more (Some line) left w p q) ∙ cond-false (bytes_eq w name) (numbers_of (words_left left)) None e)
-
-pub no_line : (bs : List ℕ) → length bs ≡ 0 → (None ≡ next_line bs) × (bs ≡ behind_line bs)
-no_line [] e = (refl, refl)
-no_line (b ∷ bs) e = let no : ⊥ = omega arith in elim no [ ]
-
-value_less : (o : Option (List ℕ)) (n : ℕ) → size_left o ≤ suc n → length (unwrap_or o []) < suc n
-value_less None n h = omega arith
-value_less (Some bs) n h = omega arith
-
-pub line_less : (bs line left : List ℕ) → Some line ≡ next_line bs → left ≡ behind_line bs → length left < length bs
-line_less [] line left p q = let no : ◌≡◌ {A = ℕ} 0 1 = cc in omega arith
-line_less (b ∷ bs) line left p q =
-    let e : length left ≡ length (behind_line (b ∷ bs)) = ap length q in
-    omega (arith, value_less (rest_of 10 (b ∷ bs)) (length bs) (rest_size 10 (b ∷ bs)))

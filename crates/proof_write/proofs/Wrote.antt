@@ -1,7 +1,8 @@
 -- What the whole-proof call leaves at the output's start. Assumes nothing.
-use Rattle.std.proofs.Common.{◌≡◌, ℕ, List, length, take, drop, IfOk, Ok, Err, vec_items, Result, sym, refl, ap, ◌∙◌, arith, lit≤}
+use Rattle.std.proofs.Common.{◌≡◌, ℕ, true, false, List, length, take, drop, IfOk, Ok, Err, vec_items, Result, sym, refl, ap, subst, ◌∙◌, arith, lit≤}
 use Rattle.std.proofs.lemmas.List.{take_at}
 use Rattle.std.proofs.lemmas.Result.{IfOk-weaker}
+use Rattle.std.specs.Result.{is_ok, MatchResult}
 use Rattle.kind.specs.Bytes.{WellWritten, clear_writing}
 use Rattle.kind.specs.Clears.{clear_meaning, clear_of, clear_of_some, clear_of_only, clear_number}
 use Rattle.kind.specs.Faults.{and_then}
@@ -50,3 +51,9 @@ wrote g key bases q p cs out after x r ek eq ep ec e s =
     IfOk-weaker r (λ n. take n after ≡ at key q p cs) (λ n. take n after ≡ record_over bases g) (λ n h. h ∙ same)
     (begun_taken (at key q p cs) out after (record_length 4 (length cs)) x r
     (record_long clear_meaning clear_writing clear_written key cs (lists_of clear_meaning bases bases q p)) e s)
+
+-- what holds of a call's value holds after its error was mapped
+pub ok_before : {T E F : Type 0} (r : Result T E) (s : Result T F) (x : T) (Q : E → Type 0) (P : T → Type 0)
+    → MatchResult r (λ y. s ≡ Ok y) Q → is_ok s ≡ is_ok r → s ≡ Ok x → IfOk r P → P x
+ok_before (Ok y) s x Q P h v w k = let e : y ≡ x = cc in subst P e k
+ok_before (Err e) s x Q P h v w k = let no : true ≡ false = sym (ap is_ok w) ∙ v in cc

@@ -1,10 +1,9 @@
 -- The numbers of a line, and the lines of a text. Assumes nothing.
 use Rattle.std.specs.Prelude.{◌≡◌, ℕ, cond, List, [], ◌∷◌, Some, None, vec_items, codes, Option, ◌==◌}
-use Rattle.std.specs.Option.{unwrap_or}
 use Rattle.std.specs.Str.{bytes_eq}
-use Rattle.text.specs.Words.{front_of, rest_of, number_of}
+use Rattle.text.specs.Words.{number_of}
+use Rattle.text.specs.Lines.{next_line, behind_line}
 use Rattle.proof_write.specs.declared.groups.Group.{Group}
-use Rattle.proof_write.specs.declared.groups.Lines.{Lines}
 
 -- a byte in front of the first word
 abbrev pub begun : ℕ → List (List ℕ) → List (List ℕ)
@@ -43,18 +42,6 @@ numbers_in name line = behind_name name (words_of line)
 abbrev pub list_in : List ℕ → Option (List ℕ) → Option (List ℕ)
 list_in name None = None
 list_in name (Some line) = numbers_in name line
-
--- what is left of a text
-abbrev pub text_left : Lines → List ℕ
-text_left l = l.rest.now
-
--- the next line of what is left, and what is left behind it. A line ends by a newline (10)
-abbrev pub next_line : List ℕ → Option (List ℕ)
-next_line [] = None
-next_line (b ∷ bs) = Some (front_of 10 (b ∷ bs))
-
-abbrev pub behind_line : List ℕ → List ℕ
-behind_line bs = unwrap_or (rest_of 10 bs) []
 
 -- a group is the lists of three lines
 pub record ReadGroup (text : List ℕ) (g : Group) : Type 0 where

@@ -1,5 +1,5 @@
 -- Bytes in uppercase hexadecimal. Assumes nothing.
-use Rattle.std.specs.Prelude.{ℕ, ◌+◌, ◌/◌, ◌%◌, cond, List, [], ◌∷◌, ◌++◌, take, drop, nat_lt}
+use Rattle.std.specs.Prelude.{ℕ, ◌+◌, ◌/◌, ◌%◌, cond, List, [], ◌∷◌, ◌++◌, nat_lt}
 
 -- 0 to 9 are the codes from 48 on, and A to F those from 65 on
 abbrev pub hex_digit : ℕ → ℕ
@@ -12,7 +12,7 @@ abbrev pub hex_of : List ℕ → List ℕ
 hex_of [] = []
 hex_of (b ∷ bs) = hex_pair b ++ hex_of bs
 
--- a line of digits for each of the records that stand one behind the other
-abbrev pub hex_lines : List ℕ → List ℕ → List ℕ
-hex_lines [] bs = []
-hex_lines (n ∷ ns) bs = (hex_of (take n bs) ++ 10 ∷ []) ++ hex_lines ns (drop n bs)
+-- a line of digits for each of the records
+abbrev pub hex_lines : List (List ℕ) → List ℕ
+hex_lines [] = []
+hex_lines (r ∷ rs) = (hex_of r ++ 10 ∷ []) ++ hex_lines rs

@@ -22,8 +22,8 @@ fn pair(b: u8) -> [u8; 2]
 pub fn push_hex(out: &mut Vec<u8>, bytes: &[u8]) -> Result<(), AllocError>
     ensures { OnOk result (out.new.items ≡ out.old.items ++ hex_of bytes.now) }
 {
-    for i in 0..bytes.len() {
-        out.extend_from_slice(&pair(bytes[i]))?;
+    for byte in bytes {
+        out.extend_from_slice(&pair(*byte))?;
     }
     Ok(())
 }

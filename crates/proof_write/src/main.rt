@@ -7,88 +7,71 @@ mod hex;
 mod prove;
 mod stop;
 
-use crate::bundle::{Bundle, directory, push_lines};
+use crate::bundle::{directory, push_lines};
 use crate::hex::push_hex;
 use crate::prove::prove_all;
 use crate::stop::Stop;
-use kind::fault::Refusal;
-use std::io::{Read, Write};
+use std::io::Write;
 use std::{env, io};
-use writer::fault::WriterFault;
+use text::input::read_all;
 
-const LIMIT: usize = 1_048_576;
+const LIMIT: u32 = 1_048_576;
 
-// Whether the argument asks for hexadecimal digits; None where the arguments are not as they should be.
-fn hexadecimal(rt: &HostRuntime) -> io::Result<Option<bool>> {
-    let mut args = env::args(rt)?;
-    let _program = args.next();
+// How the bundle is written.
+#[derive(Clone, Copy)]
+enum Output {
+    Bytes,
+    Hex,
+}
+
+// What the arguments ask for; None where they are not as they should be.
+fn wanted_output(rt: &HostRuntime) -> io::Result<Option<Output>> {
+    let mut args = env::args(rt)?.skip(1);
     let Some(option) = args.next() else {
-        return Ok(Some(false));
+        return Ok(Some(Output::Bytes));
     };
-    if args.next().is_none() && option.as_str() == "--hex" {
-        Ok(Some(true))
-    } else {
-        Ok(None)
-    }
-}
-
-// The whole input, or None where it is longer than the limit.
-fn input(rt: &HostRuntime) -> io::Result<Option<Vec<u8>>> {
-    let mut all = Vec::new(rt.alloc());
-    rt.stdin().take(LIMIT as u64 + 1).read_to_end(&mut all)?;
-    if all.len() > LIMIT {
-        Ok(None)
-    } else {
-        Ok(Some(all))
-    }
-}
-
-fn print_stop(rt: &HostRuntime, stop: Stop) -> io::Result<()> {
-    match stop {
-        Stop::Missing(line) => println!(rt; "line {line}: missing"),
-        Stop::NotUnderstood(line) => println!(rt; "line {line}: not understood"),
-        Stop::Refused(fault, group) => {
-            let Refusal {
-                number,
-                layer: _,
-                place,
-            } = fault.refusal();
-            println!(rt; "fault {number} group {group} place {place}")
-        }
-        Stop::Memory(e) => Err(io::Error::from(e)),
-    }
+    let hex = option.as_str() == "--hex" && args.next().is_none();
+    Ok(hex.then_some(Output::Hex))
 }
 
 // Writes the bundle's bytes, or its directory and its records in lines of hexadecimal digits. A text within the limit has
 // too few groups for a bundle that is too long.
-fn write_bundle(rt: &HostRuntime, bundle: &Bundle, hex: bool) -> io::Result<()> {
-    let Some(front) = directory(rt.alloc(), &bundle.lengths)? else {
+fn write_bundle(rt: &HostRuntime, records: &[Vec<u8>], output: Output) -> io::Result<()> {
+    let Some(front) = directory(rt.alloc(), records)? else {
         return println!(rt; "bundle too long");
     };
-    if !hex {
-        rt.stdout().write_all(&front)?;
-        return rt.stdout().write_all(&bundle.records);
+    match output {
+        Output::Bytes => {
+            rt.stdout().write_all(&front)?;
+            for record in records {
+                rt.stdout().write_all(record)?;
+            }
+            Ok(())
+        }
+        Output::Hex => {
+            let mut digits = Vec::new(rt.alloc());
+            push_hex(&mut digits, &front)?;
+            digits.push(b'\n')?;
+            push_lines(&mut digits, records)?;
+            rt.stdout().write_all(&digits)
+        }
     }
-    let mut digits = Vec::new(rt.alloc());
-    push_hex(&mut digits, &front)?;
-    digits.push(b'\n')?;
-    push_lines(&mut digits, &bundle.lengths, &bundle.records)?;
-    rt.stdout().write_all(&digits)
 }
 
-fn run(rt: &HostRuntime, text: &[u8], hex: bool) -> io::Result<()> {
+fn run(rt: &HostRuntime, text: &[u8], output: Output) -> io::Result<()> {
     match prove_all(rt.alloc(), text) {
-        Ok(bundle) => write_bundle(rt, &bundle, hex),
-        Err(stop) => print_stop(rt, stop),
+        Ok(records) => write_bundle(rt, &records, output),
+        Err(Stop::Memory(e)) => Err(e.into()),
+        Err(stop) => println!(rt; "{stop}"),
     }
 }
 
 fn main(rt: HostRuntime) -> io::Result<()> {
-    let Some(hex) = hexadecimal(&rt)? else {
+    let Some(output) = wanted_output(&rt)? else {
         return println!(rt; "usage: proof-write [--hex]");
     };
-    match input(&rt)? {
+    match read_all(rt.alloc(), rt.stdin(), LIMIT)? {
         None => println!(rt; "input too long"),
-        Some(text) => run(&rt, &text, hex),
+        Some(text) => run(&rt, &text, output),
     }
 }

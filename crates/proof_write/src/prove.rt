@@ -4,8 +4,7 @@ ghost use Rattle.kind.specs.Bench.{bench_entries};
 ghost use Rattle.kind.specs.Clears.{clear_meaning};
 ghost use Rattle.proof_write.specs.Proofs.{record_over, group_record};
 
-use crate::bundle::Bundle;
-use crate::groups::{Group, Lines};
+use crate::groups::{Group, Groups};
 use crate::stop::Stop;
 use kind::bench::fill_bench;
 use kind::clear::Clear;
@@ -60,26 +59,23 @@ fn record_of(heap: Global, group: &Group, number: usize) -> Result<Vec<u8>, Stop
     let mut elements = vec![in heap; 0u32; twice]?;
     let mut numbers = vec![in heap; 0u32; twice]?;
     let mut out = vec![in heap; 0u8; LONGEST]?;
-    match write_record(group, &bench, &mut out, &mut elements, &mut numbers) {
-        Ok(length) => {
-            out.truncate(length);
-            Ok(out)
-        }
-        Err(fault) => Err(Stop::Refused(fault, number)),
-    }
+    let length = write_record(group, &bench, &mut out, &mut elements, &mut numbers).map_err(
+        |fault| Stop::Refused(fault, number),
+    )?;
+    out.truncate(length);
+    Ok(out)
 }
 
-// The bundle of all groups of a text, or what comes first in it that stops this.
-pub fn prove_all(heap: Global, text: &[u8]) -> Result<Bundle, Stop> {
-    let mut lines = Lines::all(text);
-    let mut bundle = Bundle::new(heap);
+// The records of all groups of a text, or what comes first in it that stops this.
+pub fn prove_all(heap: Global, text: &[u8]) -> Result<Vec<Vec<u8>>, Stop> {
+    let mut groups = Groups::all(text);
+    let mut records = Vec::new(heap);
     loop {
-        let group = lines.group(heap)?;
-        let number = bundle.lengths.len().saturating_add(1);
-        let record = record_of(heap, &group, number)?;
-        bundle.add(&record)?;
-        if lines.is_empty() {
-            return Ok(bundle);
+        let group = groups.group(heap)?;
+        let number = records.len().saturating_add(1);
+        records.push(record_of(heap, &group, number)?)?;
+        if groups.is_empty() {
+            return Ok(records);
         }
     }
 }

@@ -1,152 +1,38 @@
 // station-replay: a script of calls, one to a line, performed on a station; a line is printed for each.
 #![tactic(auto)]
 
+mod lists;
 mod script;
-mod words;
 
-use crate::script::{Header, call_of, read_header, read_line};
-use crate::words::split;
-use kind::bench::fill_bench;
+use crate::lists::Lists;
+use crate::script::{Header, KindName, MethodName, Said};
 use kind::clear::Clear;
-use kind::fault::{KindFault, Layer, Refusal};
 use kind::kind::Kind;
 use kind::residue::Residue;
-use ledger::fault::StationFault;
-use ledger::parts::{Answer, Numbers, Page, Sort};
-use method::fault::MethodFault;
 use method::halving::Halving;
 use method::method::Method;
 use method::multiplying::MultiplyingOut;
-use station::call::Call;
-use station::replay::perform;
 use station::state::Station;
 use std::io;
-use std::io::Read;
+use text::input::read_all;
+use text::lines::Lines;
 
-const LIMIT: usize = 1_048_576;
+const LIMIT: u32 = 1_048_576;
 
-const LONGEST: usize = 65_535;
-
-// The whole input, or None where it is longer than the limit.
-fn input(rt: &HostRuntime) -> io::Result<Option<Vec<u8>>> {
-    let mut all = Vec::new(rt.alloc());
-    rt.stdin().take(LIMIT as u64 + 1).read_to_end(&mut all)?;
-    if all.len() > LIMIT {
-        Ok(None)
-    } else {
-        Ok(Some(all))
-    }
-}
-
-fn sort_word(sort: Sort) -> &'static str {
-    match sort {
-        Sort::Waiting => "waiting",
-        Sort::Heard => "heard",
-        Sort::Closing => "closing",
-    }
-}
-
-fn layer_word(layer: Layer) -> &'static str {
-    match layer {
-        Layer::Kind => "kind",
-        Layer::Method => "method",
-        Layer::Writer => "writer",
-        Layer::Station => "station",
-        Layer::Record => "record",
-        Layer::Bundle => "bundle",
-    }
-}
-
-fn print_answer(rt: &HostRuntime, answer: Answer) -> io::Result<()> {
-    match answer {
-        Answer::Token(
-            sort,
-            Numbers {
-                station,
-                case,
-                rounds,
-            },
-        ) => {
-            let word = sort_word(sort);
-            print!(rt; "{word} {station} {case} {rounds}")
-        }
-        Answer::Verdict(true) => print!(rt; "pass"),
-        Answer::Verdict(false) => print!(rt; "fail"),
-        Answer::Withdrawn => print!(rt; "withdrawn"),
-        Answer::Turned(
-            Page {
-                opened,
-                passed,
-                failed,
-                withdrawn,
-            },
-        ) => { print!(rt; "turned {opened} {passed} {failed} {withdrawn}") }
-        Answer::Refused(fault) => {
-            let Refusal {
-                number,
-                layer,
-                place,
-            } = fault.refusal();
-            let word = layer_word(layer);
-            print!(rt; "refused {number} {word} {place}")
-        }
-    }
-}
-
-fn print_page(rt: &HostRuntime, page: Page) -> io::Result<()> {
-    let Page {
-        opened,
-        passed,
-        failed,
-        withdrawn,
-    } = page;
-    println!(rt; " page {opened} {passed} {failed} {withdrawn}")
-}
-
-// Performs one line, and prints its answer and the page; false where the line is no call.
-fn perform_line<K: Kind<Entry = u32>, M: Method>(
-    rt: &HostRuntime,
-    station: &mut Station<K, M>,
-    line: &[u8],
-    bench: &[u32],
-    elements: &mut [u32],
-    numbers: &mut [u32],
-) -> io::Result<bool> {
-    let Some(said) = read_line(line) else {
-        return Ok(false);
-    };
-    let answer = match call_of::<K>(said, bench) {
-        Ok(call) => perform(station, &call, elements, numbers),
-        Err(fault) => Answer::Refused(StationFault::Method(MethodFault::Kind(fault, 0), 0)),
-    };
-    print_answer(rt, answer)?;
-    print_page(rt, station.page())?;
-    Ok(true)
-}
-
-// Performs line after line. There are no more lines than bytes.
+// Performs line after line, and prints each answer and the page after it. A line that is no call ends it.
 fn perform_lines<K: Kind<Entry = u32>, M: Method>(
     rt: &HostRuntime,
     station: &mut Station<K, M>,
-    script: &[u8],
-    bench: &[u32],
-    elements: &mut [u32],
-    numbers: &mut [u32],
+    lists: &mut Lists,
+    lines: Lines,
 ) -> io::Result<()> {
-    let mut rest = script;
-    for i in 0..script.len() {
-        if rest.is_empty() {
-            return Ok(());
-        }
-        let (line, behind) = split(rest, b'\n');
-        if !perform_line(rt, station, line, bench, elements, numbers)? {
+    for (i, line) in lines.enumerate() {
+        let Some(said) = Said::read(line) else {
             let number = i.saturating_add(2);
             return println!(rt; "line {number}: not a call");
-        }
-        match behind {
-            Some(more) => rest = more,
-            None => return Ok(()),
-        }
+        };
+        let done = lists.perform(station, said);
+        println!(rt; "{done}")?;
     }
     Ok(())
 }
@@ -156,50 +42,45 @@ fn serve<K: Kind<Entry = u32>, M: Method + Drop>(
     rt: &HostRuntime,
     number: u16,
     method: M,
-    script: &[u8],
+    lines: Lines,
 ) -> io::Result<()> {
-    let mut bench = vec![in rt.alloc(); 0u32; LONGEST]?;
-    fill_bench::<K>(&mut bench);
-    let mut elements = vec![in rt.alloc(); 0u32; LONGEST]?;
-    let mut numbers = vec![in rt.alloc(); 0u32; LONGEST]?;
+    let mut lists = Lists::new::<K>(rt.alloc())?;
     let mut station = Station::<K, M>::new(number, method);
-    let done = perform_lines(
-        rt,
-        &mut station,
-        script,
-        &bench,
-        &mut elements,
-        &mut numbers,
-    );
+    let done = perform_lines(rt, &mut station, &mut lists, lines);
     station.close();
     done
 }
 
 fn run(rt: &HostRuntime, text: &[u8]) -> io::Result<()> {
-    let (first, behind) = split(text, b'\n');
+    let mut lines = Lines::from(text);
     let Some(
         Header {
             number,
-            residue,
-            multiplying,
+            kind,
+            method,
         },
-    ) = read_header(first)
+    ) = lines.next().and_then(Header::read)
     else {
         return println!(rt; "line 1: not a call");
     };
-    let Some(script) = behind else {
-        return Ok(());
-    };
-    match (residue, multiplying) {
-        (false, false) => serve::<Clear, Halving>(rt, number, Halving, script),
-        (false, true) => serve::<Clear, MultiplyingOut>(rt, number, MultiplyingOut, script),
-        (true, false) => serve::<Residue, Halving>(rt, number, Halving, script),
-        (true, true) => serve::<Residue, MultiplyingOut>(rt, number, MultiplyingOut, script),
+    match (kind, method) {
+        (KindName::Clear, MethodName::Halving) => {
+            serve::<Clear, Halving>(rt, number, Halving, lines)
+        }
+        (KindName::Clear, MethodName::Multiplying) => {
+            serve::<Clear, MultiplyingOut>(rt, number, MultiplyingOut, lines)
+        }
+        (KindName::Residue, MethodName::Halving) => {
+            serve::<Residue, Halving>(rt, number, Halving, lines)
+        }
+        (KindName::Residue, MethodName::Multiplying) => {
+            serve::<Residue, MultiplyingOut>(rt, number, MultiplyingOut, lines)
+        }
     }
 }
 
 fn main(rt: HostRuntime) -> io::Result<()> {
-    match input(&rt)? {
+    match read_all(rt.alloc(), rt.stdin(), LIMIT)? {
         None => println!(rt; "input too long"),
         Some(text) => run(&rt, &text),
     }

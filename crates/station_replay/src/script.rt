@@ -1,60 +1,88 @@
 // The lines of a script: what they say, and the calls that they make.
-use crate::words::{Words, is};
+ghost use Rattle.station_replay.specs.Names.{kind_word, method_word, Named, NamedIf};
+ghost use Rattle.ledger.specs.Printed.{sort_text};
+
 use kind::bytes::cut;
 use kind::fault::KindFault;
 use kind::kind::Kind;
 use ledger::parts::{Message, Numbers, Sort};
 use station::call::{Call, LastPair};
+use text::words::Words;
+
+// A word that is not one of those asked for.
+#[derive(Clone, Copy, Debug, PartialEq, Eq)]
+pub struct OtherWord;
+
+#[derive(Clone, Copy, Debug, PartialEq, Eq)]
+pub enum KindName {
+    Clear,
+    Residue,
+}
+
+impl TryFrom<&[u8]> for KindName {
+    type Error = OtherWord;
+
+    ghost try_from_gives = { λ word r. Named kind_word word.now r };
+
+    fn try_from(word: &[u8]) -> Result<KindName, OtherWord> {
+        match word {
+            b"clear" => Ok(KindName::Clear),
+            b"residue" => Ok(KindName::Residue),
+            _ => Err(OtherWord),
+        }
+    }
+}
+
+#[derive(Clone, Copy, Debug, PartialEq, Eq)]
+pub enum MethodName {
+    Halving,
+    Multiplying,
+}
+
+impl TryFrom<&[u8]> for MethodName {
+    type Error = OtherWord;
+
+    ghost try_from_gives = { λ word r. Named method_word word.now r };
+
+    fn try_from(word: &[u8]) -> Result<MethodName, OtherWord> {
+        match word {
+            b"halving" => Ok(MethodName::Halving),
+            b"multiplying" => Ok(MethodName::Multiplying),
+            _ => Err(OtherWord),
+        }
+    }
+}
 
 // The first line: the station's number, the kind and the method.
 #[derive(Clone, Copy)]
 pub struct Header {
     pub number: u16,
-    pub residue: bool,
-    pub multiplying: bool,
+    pub kind: KindName,
+    pub method: MethodName,
 }
 
-// One of two words: whether it is the second.
-fn either(word: &[u8], first: &str, second: &str) -> Option<bool> {
-    if is(word, first) {
-        Some(false)
-    } else if is(word, second) {
-        Some(true)
-    } else {
-        None
+impl Header {
+    // None where the line is no first line.
+    pub fn read(line: &[u8]) -> Option<Header> {
+        let mut words = Words::from(line);
+        if words.next()? != b"station".as_slice() {
+            return None;
+        }
+        let number = words.short()?;
+        let kind = KindName::try_from(words.next()?).ok()?;
+        let method = MethodName::try_from(words.next()?).ok()?;
+        words.end()?;
+        Some(Header {
+            number,
+            kind,
+            method,
+        })
     }
 }
 
-pub fn read_header(line: &[u8]) -> Option<Header> {
-    let mut words = Words { rest: Some(line) };
-    if !is(words.next()?, "station") {
-        return None;
-    }
-    let number = words.short()?;
-    let residue = either(words.next()?, "clear", "residue")?;
-    let multiplying = either(words.next()?, "halving", "multiplying")?;
-    words.end()?;
-    Some(Header {
-        number,
-        residue,
-        multiplying,
-    })
-}
-
-// A call as its line says it, elements and lists by number.
+// The numbers of a last pair: a and b, how many entries G and H have, and how many of the work lists are lent.
 #[derive(Clone, Copy)]
-pub enum Said {
-    Open(u8, u32, u32),
-    Message(Sort, Numbers, Message<u32>),
-    Draw(Sort, Numbers, u32),
-    Last(Sort, Numbers, Lengths),
-    Withdraw(Sort, Numbers),
-    Turn,
-}
-
-// The numbers of a last pair: a and b, how many entries G and H have, and the work lists.
-#[derive(Clone, Copy)]
-pub struct Lengths {
+pub struct PairNumbers {
     pub a: u32,
     pub b: u32,
     pub g: u16,
@@ -63,150 +91,121 @@ pub struct Lengths {
     pub numbers: u16,
 }
 
-fn read_sort(word: &[u8]) -> Option<Sort> {
-    if is(word, "waiting") {
-        Some(Sort::Waiting)
-    } else if is(word, "heard") {
-        Some(Sort::Heard)
-    } else if is(word, "closing") {
-        Some(Sort::Closing)
-    } else {
-        None
+// A call as its line says it, elements and lists by number.
+#[derive(Clone, Copy)]
+pub enum Said {
+    Open(u8, u32, u32),
+    Message(Sort, Numbers, Message<u32>),
+    Draw(Sort, Numbers, u32),
+    Last(Sort, Numbers, PairNumbers),
+    Withdraw(Sort, Numbers),
+    Turn,
+}
+
+// What prints as this word. A function, since the sort of a token is the ledger's own type.
+fn sort_of(word: &[u8]) -> Option<Sort>
+    ensures { NamedIf sort_text word.now result }
+{
+    match word {
+        b"waiting" => Some(Sort::Waiting),
+        b"heard" => Some(Sort::Heard),
+        b"closing" => Some(Sort::Closing),
+        _ => None,
     }
 }
 
 fn read_token(words: &mut Words) -> Option<(Sort, Numbers)> {
-    let sort = read_sort(words.next()?)?;
-    let station = words.short()?;
-    let case = words.number()?;
-    let rounds = words.byte()?;
-    Some((
-        sort,
-        Numbers {
-            station,
-            case,
-            rounds,
-        },
-    ))
-}
-
-fn read_open(words: &mut Words) -> Option<Said> {
-    let k = words.byte()?;
-    let z1 = words.number()?;
-    let z2 = words.number()?;
-    Some(Said::Open(k, z1, z2))
-}
-
-fn read_message(words: &mut Words) -> Option<Said> {
-    let (sort, t) = read_token(words)?;
-    let l1 = words.number()?;
-    let l2 = words.number()?;
-    let r1 = words.number()?;
-    let r2 = words.number()?;
-    Some(Said::Message(sort, t, Message { l1, l2, r1, r2 }))
-}
-
-fn read_draw(words: &mut Words) -> Option<Said> {
-    let (sort, t) = read_token(words)?;
-    let c = words.number()?;
-    Some(Said::Draw(sort, t, c))
-}
-
-fn read_last(words: &mut Words) -> Option<Said> {
-    let (sort, t) = read_token(words)?;
-    let a = words.number()?;
-    let b = words.number()?;
-    let g = words.short()?;
-    let h = words.short()?;
-    let elements = words.short()?;
-    let numbers = words.short()?;
-    Some(Said::Last(
-        sort,
-        t,
-        Lengths {
-            a,
-            b,
-            g,
-            h,
-            elements,
-            numbers,
-        },
-    ))
-}
-
-fn read_withdraw(words: &mut Words) -> Option<Said> {
-    let (sort, t) = read_token(words)?;
-    Some(Said::Withdraw(sort, t))
-}
-
-pub fn read_line(line: &[u8]) -> Option<Said> {
-    let mut words = Words { rest: Some(line) };
-    let verb = words.next()?;
-    let said = if is(verb, "open") {
-        read_open(&mut words)?
-    } else if is(verb, "message") {
-        read_message(&mut words)?
-    } else if is(verb, "draw") {
-        read_draw(&mut words)?
-    } else if is(verb, "last") {
-        read_last(&mut words)?
-    } else if is(verb, "withdraw") {
-        read_withdraw(&mut words)?
-    } else if is(verb, "turn") {
-        Said::Turn
-    } else {
-        return None;
+    let sort = sort_of(words.next()?)?;
+    let numbers = Numbers {
+        station: words.short()?,
+        case: words.number()?,
+        rounds: words.byte()?,
     };
-    words.end()?;
-    Some(said)
+    Some((sort, numbers))
+}
+
+fn read_message(words: &mut Words) -> Option<Message<u32>> {
+    Some(Message {
+        l1: words.number()?,
+        l2: words.number()?,
+        r1: words.number()?,
+        r2: words.number()?,
+    })
+}
+
+fn read_pair(words: &mut Words) -> Option<PairNumbers> {
+    Some(PairNumbers {
+        a: words.number()?,
+        b: words.number()?,
+        g: words.short()?,
+        h: words.short()?,
+        elements: words.short()?,
+        numbers: words.short()?,
+    })
+}
+
+// What stands behind a verb.
+fn read_rest(verb: &[u8], words: &mut Words) -> Option<Said> {
+    match verb {
+        b"open" => Some(Said::Open(words.byte()?, words.number()?, words.number()?)),
+        b"turn" => Some(Said::Turn),
+        _ => {
+            let (sort, token) = read_token(words)?;
+            match verb {
+                b"message" => Some(Said::Message(sort, token, read_message(words)?)),
+                b"draw" => Some(Said::Draw(sort, token, words.number()?)),
+                b"last" => Some(Said::Last(sort, token, read_pair(words)?)),
+                b"withdraw" => Some(Said::Withdraw(sort, token)),
+                _ => None,
+            }
+        }
+    }
 }
 
 fn message_of<K: Kind<Entry = u32>>(m: Message<u32>) -> Result<Message<K>, KindFault> {
-    let l1 = K::from_entry(m.l1)?;
-    let l2 = K::from_entry(m.l2)?;
-    let r1 = K::from_entry(m.r1)?;
-    let r2 = K::from_entry(m.r2)?;
-    Ok(Message { l1, l2, r1, r2 })
+    Ok(Message {
+        l1: K::from_entry(m.l1)?,
+        l2: K::from_entry(m.l2)?,
+        r1: K::from_entry(m.r1)?,
+        r2: K::from_entry(m.r2)?,
+    })
 }
 
-// The call that a line makes, with lists from the front of the bench list and the base for K.
-// A number of no element is refused by 11.
-pub fn call_of<'a, K: Kind<Entry = u32>>(
-    said: Said,
-    bench: &'a [u32],
-) -> Result<Call<'a, K, u32>, KindFault> {
-    match said {
-        Said::Open(k, z1, z2) => {
-            let z1 = K::from_entry(z1)?;
-            let z2 = K::from_entry(z2)?;
-            Ok(Call::Open(k, z1, z2))
-        }
-        Said::Message(sort, t, m) => {
-            let m = message_of::<K>(m)?;
-            Ok(Call::Message(sort, t, m))
-        }
-        Said::Draw(sort, t, c) => Ok(Call::Draw(sort, t, c)),
-        Said::Last(sort, t, p) => {
-            let (g, _) = cut(bench, p.g as usize);
-            let (h, _) = cut(bench, p.h as usize);
-            let key = K::base();
-            let elements = p.elements as usize;
-            let numbers = p.numbers as usize;
-            Ok(Call::Last(
-                sort,
-                t,
-                LastPair {
+impl Said {
+    // None where the line is no call.
+    pub fn read(line: &[u8]) -> Option<Said> {
+        let mut words = Words::from(line);
+        let said = read_rest(words.next()?, &mut words)?;
+        words.end()?;
+        Some(said)
+    }
+
+    // The call that a line makes, with lists from the front of the bench list and the base for K.
+    // A number of no element is refused by 11.
+    pub fn call<'a, K: Kind<Entry = u32>>(
+        self,
+        bench: &'a [u32],
+    ) -> Result<Call<'a, K, u32>, KindFault> {
+        Ok(match self {
+            Said::Open(k, z1, z2) => Call::Open(k, K::from_entry(z1)?, K::from_entry(z2)?),
+            Said::Message(sort, token, m) => Call::Message(sort, token, message_of::<K>(m)?),
+            Said::Draw(sort, token, c) => Call::Draw(sort, token, c),
+            Said::Last(sort, token, p) => {
+                let (g, _) = cut(bench, usize::from(p.g));
+                let (h, _) = cut(bench, usize::from(p.h));
+                let pair = LastPair {
                     g,
                     h,
-                    key,
+                    key: K::base(),
                     a: p.a,
                     b: p.b,
-                    elements,
-                    numbers,
-                },
-            ))
-        }
-        Said::Withdraw(sort, t) => Ok(Call::Withdraw(sort, t)),
-        Said::Turn => Ok(Call::Turn),
+                    elements: usize::from(p.elements),
+                    numbers: usize::from(p.numbers),
+                };
+                Call::Last(sort, token, pair)
+            }
+            Said::Withdraw(sort, token) => Call::Withdraw(sort, token),
+            Said::Turn => Call::Turn,
+        })
     }
 }

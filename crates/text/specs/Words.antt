@@ -1,6 +1,7 @@
 -- Lines, words and decimal numbers in bytes. Assumes nothing.
-use Rattle.std.specs.Prelude.{ℕ, suc, ◌+◌, ◌-◌, ◌*◌, ◌^◌, Bool, true, cond, ◌&&◌, List, [], ◌∷◌, length, take, drop, Some, None, Option, ◌==◌, nat_le, nat_lt}
+use Rattle.std.specs.Prelude.{◌≡◌, ℕ, suc, ◌+◌, ◌-◌, ◌*◌, ◌^◌, Bool, true, cond, ◌&&◌, List, [], ◌∷◌, length, take, drop, Some, None, Option, ◌==◌, nat_le, nat_lt}
 use Rattle.std.specs.Borrow.{Bor}
+use Rattle.std.specs.Iterator.{Count, at_most}
 use Rattle.text.specs.declared.words.Words.{Words}
 
 -- how many bytes stand before the first mark; all of them where there is none
@@ -63,3 +64,16 @@ up_to m (Some n) = cond (nat_le n m) (Some n) None
 abbrev pub at_end : Option (List ℕ) → Option Unit
 at_end None = Some tt
 at_end (Some line) = None
+
+-- how much is left of a line: one more than its bytes, and 0 where its last word was taken
+abbrev pub line_size : Option (List ℕ) → ℕ
+line_size None = 0
+line_size (Some line) = suc (length line)
+
+-- there are at most so many words
+abbrev pub words_most : Words → Count
+words_most w = at_most (line_size (line_left w))
+
+-- a call took the next word and left what stands behind it
+abbrev pub TakesWord : Words → Option (Bor (List ℕ)) → Words → Type 0
+TakesWord before word after = (pointed word ≡ next_word (line_left before)) × (line_left after ≡ behind_word (line_left before))

@@ -1,4 +1,6 @@
-// Lines, words and decimal numbers in bytes.
+// Lines, words and decimal numbers in bytes, and a whole input.
 #![tactic(auto)]
 
+pub mod input;
+pub mod lines;
 pub mod words;

@@ -1,20 +1,14 @@
 // Lines, words and decimal numbers in bytes.
-ghost use Rattle.std.specs.Prelude.{◌≡◌};
+ghost use Rattle.std.specs.Prelude.{◌≡◌, ⊤, Some};
 ghost use Rattle.std.specs.Str.{bytes_eq};
-ghost use Rattle.text.specs.Words.{count_before, front_of, rest_of, number_of, pointed, line_left, next_word, behind_word, number_if, up_to, at_end};
-
-use kind::bytes::cut;
+ghost use Rattle.text.specs.Words.{count_before, front_of, rest_of, number_of, pointed, line_left, next_word, behind_word, number_if, up_to, at_end, words_most, TakesWord};
+ghost use Rattle.std.specs.Iterator.{MakesProgress};
 
 // How many bytes stand before the first mark; all of them where there is none.
 fn before(bytes: &[u8], mark: u8) -> usize
     ensures { result ≡ count_before mark bytes.now }
 {
-    for i in 0..bytes.len() {
-        if bytes[i] == mark {
-            return i;
-        }
-    }
-    bytes.len()
+    bytes.iter().position(|b| *b == mark).unwrap_or(bytes.len())
 }
 
 // What stands before the first mark, and what stands behind it, if there is a mark.
@@ -22,13 +16,8 @@ pub fn split(bytes: &[u8], mark: u8) -> (&[u8], Option<&[u8]>)
     ensures front { result.0.now ≡ front_of mark bytes.now }
     ensures behind { pointed result.1 ≡ rest_of mark bytes.now }
 {
-    let at = before(bytes, mark);
-    if at == bytes.len() {
-        return (bytes, None);
-    }
-    let (front, _) = cut(bytes, at);
-    let (_, back) = cut(bytes, at + 1);
-    (front, Some(back))
+    let (front, behind) = bytes.split_at(before(bytes, mark));
+    (front, behind.get(1..))
 }
 
 // The number that decimal digits write, if it fits.
@@ -39,12 +28,11 @@ pub fn number(word: &[u8]) -> Option<u32>
         return None;
     }
     let mut n = 0u32;
-    for i in 0..word.len() {
-        let digit = word[i];
-        if digit < b'0' || digit > b'9' {
+    for digit in word {
+        if !digit.is_ascii_digit() {
             return None;
         }
-        n = n.checked_mul(10)?.checked_add((digit - b'0') as u32)?;
+        n = n.checked_mul(10)?.checked_add(u32::from(*digit - b'0'))?;
     }
     Some(n)
 }
@@ -55,17 +43,35 @@ pub struct Words<'a> {
     pub rest: Option<&'a [u8]>,
 }
 
-impl<'a> Words<'a> {
+impl<'a> From<&'a [u8]> for Words<'a> {
+    ghost from_gives = { λ line words. line_left words ≡ Some line.now };
+
+    // All words of a line.
+    fn from(line: &'a [u8]) -> Words<'a> {
+        Words { rest: Some(line) }
+    }
+}
+
+impl<'a> Iterator for Words<'a> {
+    type Item = &'a [u8];
+
+    ghost next_gives = { TakesWord };
+
+    ghost remaining = { words_most };
+
     // The next word.
-    pub fn next(&mut self) -> Option<&'a [u8]>
+    fn next(&mut self) -> Option<&'a [u8]>
         ensures word { pointed result ≡ next_word (line_left self.old) }
         ensures left { line_left self.new ≡ behind_word (line_left self.old) }
+        ensures goes { MakesProgress (λ _. ⊤) words_most self.old result self.new }
     {
         let (word, rest) = split(self.rest?, b' ');
         self.rest = rest;
         Some(word)
     }
+}
 
+impl<'a> Words<'a> {
     // A number from 0 to 4,294,967,295.
     pub fn number(&mut self) -> Option<u32>
         ensures value { result ≡ number_if (next_word (line_left self.old)) }
@@ -79,8 +85,7 @@ impl<'a> Words<'a> {
         ensures value { result ≡ up_to 65535 (number_if (next_word (line_left self.old))) }
         ensures left { line_left self.new ≡ behind_word (line_left self.old) }
     {
-        let n = self.number()?;
-        if n <= 65_535 { Some(n as u16) } else { None }
+        u16::try_from(self.number()?).ok()
     }
 
     // A number from 0 to 255.
@@ -88,18 +93,14 @@ impl<'a> Words<'a> {
         ensures value { result ≡ up_to 255 (number_if (next_word (line_left self.old))) }
         ensures left { line_left self.new ≡ behind_word (line_left self.old) }
     {
-        let n = self.number()?;
-        if n <= 255 { Some(n as u8) } else { None }
+        u8::try_from(self.number()?).ok()
     }
 
     // Nothing, where no word is left.
     pub fn end(&self) -> Option<()>
         ensures { result ≡ at_end (line_left self.now) }
     {
-        match self.rest {
-            None => Some(()),
-            Some(_) => None,
-        }
+        self.rest.is_none().then_some(())
     }
 }
 

@@ -1,6 +1,6 @@
 use Rattle.std.proofs.Common.{length}
-use Rattle.proof_write.specs.Groups.{text_left}
+use Rattle.text.specs.Lines.{text_left}
 use Rattle.proof_write.proofs.prove.prove_all.Given as goal
 
-abbrev pub decreases-loop-bundle : goal.decreases-loop-bundle
-decreases-loop-bundle l = length (text_left l.lines)
+abbrev pub decreases-loop-records : goal.decreases-loop-records
+decreases-loop-records l = length (text_left l.groups.lines)

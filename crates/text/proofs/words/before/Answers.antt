@@ -1,14 +1,13 @@
-use Rattle.std.proofs.Common.{arith}
-use Rattle.text.proofs.Scans.{counted_more, counted_here, counted_all}
+use Rattle.std.proofs.Common.{◌≡◌, ◌==◌, ◌∙◌, ap, unwrap_or, length, rules, tests}
+use Rattle.std.proofs.lemmas.Iterator.{YieldsList-from_slice}
+use Rattle.std.proofs.lemmas.Iterator.Search.{position_from_yields_List}
+use Rattle.std.specs.List.{position}
+use Rattle.text.proofs.Scans.{position_is}
 use Rattle.text.proofs.words.before.Goals as goal
 
-pub returns-then-bytes-i : goal.returns-then-bytes-i
-returns-then-bytes-i c =
-    counted_here c.args.mark c.args.bytes.now c.loop-i.i c.loop-i-test.true c.if-bytes-i.true c.loop-i.invariant
-
-pub loop-i-preserved : goal.loop-i-preserved
-loop-i-preserved c =
-    counted_more c.args.mark c.args.bytes.now c.loop-i.i c.loop-i-test.true c.if-bytes-i.false c.loop-i.invariant
-
 pub returns : goal.returns
-returns c = counted_all c.args.mark c.args.bytes.now c.loop-i.i (omega arith) c.loop-i.invariant
+returns c =
+    let e : c.position.result ≡ position (λ b. b == c.args.mark) c.args.bytes.now =
+    position_from_yields_List (λ b. b == c.args.mark) _ _ c.position.result c.position.ensures.ran
+    (YieldsList-from_slice c.args.bytes.now cc) (λ x b q k. search (rules, tests)) in
+    c.unwrap_or.ensures ∙ ap (λ o. unwrap_or o (length c.args.bytes.now)) e ∙ position_is c.args.mark c.args.bytes.now
