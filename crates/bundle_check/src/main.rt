@@ -6,6 +6,7 @@ use bundle::records::Records;
 use kind::bench::fill_bench;
 use kind::clear::Clear;
 use kind::kind::Kind;
+use method::bases::Bases;
 use method::halving::Halving;
 use std::io;
 use text::input::read_all;
@@ -28,8 +29,13 @@ fn report(rt: &HostRuntime, file: &[u8]) -> io::Result<()> {
         Ok(records) => records,
         Err(fault) => return print_fault(rt, fault),
     };
-    let mut bases = vec![in rt.alloc(); 0u32; 256]?;
-    fill_bench::<Clear>(&mut bases);
+    let mut bench = vec![in rt.alloc(); 0u32; 256]?;
+    fill_bench::<Clear>(&mut bench);
+    let bases = Bases {
+        g: &bench,
+        h: &bench,
+        key: Clear::base(),
+    };
     let mut elements = vec![in rt.alloc(); 0u32; 256]?;
     let mut numbers = vec![in rt.alloc(); 0u32; 256]?;
     let mut passed = 0u32;
@@ -39,8 +45,6 @@ fn report(rt: &HostRuntime, file: &[u8]) -> io::Result<()> {
         let Some(answer) = records.check_next::<Clear, Halving>(
             &Halving,
             &bases,
-            &bases,
-            Clear::base(),
             &mut elements,
             &mut numbers,
         ) else {

@@ -15,6 +15,7 @@ mod tests {
     use kind::products::product;
     use kind::residue::Residue;
     use kind::written::WrittenKind;
+    use method::bases::Bases;
     use method::fault::MethodFault;
     use method::halving::Halving;
     use method::method::Method;
@@ -119,8 +120,13 @@ mod tests {
         a: u32,
         b: u32,
     ) -> Result<bool, Fail> {
-        let mut bases = [0; 2];
-        fill_bench::<Clear>(&mut bases);
+        let mut bench = [0; 2];
+        fill_bench::<Clear>(&mut bench);
+        let bases = Bases {
+            g: &bench,
+            h: &bench,
+            key: Clear::base(),
+        };
         let z = Pair {
             a: Clear::from_entry(91)?,
             b: Clear::from_entry(525)?,
@@ -129,17 +135,7 @@ mod tests {
         let mut numbers = [7; 3];
         match ChallengeTable::new(&[2]) {
             Ok(table) => {
-                let passed = method.verdict(
-                    &table,
-                    z,
-                    &bases,
-                    &bases,
-                    Clear::base(),
-                    a,
-                    b,
-                    &mut elements,
-                    &mut numbers,
-                )?;
+                let passed = method.verdict(&table, z, &bases, a, b, &mut elements, &mut numbers)?;
                 assert_eq!(rt; elements, [0, 0, 7]);
                 assert_eq!(rt; numbers, [0, 0, 7]);
                 Ok(passed)
@@ -162,12 +158,15 @@ mod tests {
     fn record_answer(bytes: &[u8], g: &[u32]) -> Result<bool, RecordFault> {
         let mut elements = [0; 1];
         let mut numbers = [0; 1];
+        let bases = Bases {
+            g,
+            h: &[2],
+            key: Clear::base(),
+        };
         check_record::<Clear, MultiplyingOut>(
             &MultiplyingOut,
             bytes,
-            g,
-            &[2],
-            Clear::base(),
+            &bases,
             &mut elements,
             &mut numbers,
         )

@@ -7,6 +7,7 @@ mod tests {
     use kind::kind::Kind;
     use kind::residue::Residue;
     use kind::written::WrittenKind;
+    use method::bases::Bases;
     use method::halving::Halving;
     use method::method::Method;
     use method::multiplying::MultiplyingOut;
@@ -17,13 +18,22 @@ mod tests {
 
     const Q: u32 = 1_073_741_789;
 
+    // One list for G and H, and the base for K.
+    fn bench<K: Kind<Entry = u32>>(g: &[u32]) -> Bases<'_, K> {
+        Bases {
+            g,
+            h: g,
+            key: K::base(),
+        }
+    }
+
     // Both commitments by their entries.
     fn claim_of<K: Kind<Entry = u32>>(
         g: &[u32],
         l: &[u32],
         r: &[u32],
     ) -> Result<(u32, u32), WriterFault> {
-        match claim::<K>(g, g, K::base(), l, r) {
+        match claim(&bench::<K>(g), l, r) {
             Ok((z1, z2)) => Ok((z1.to_entry(), z2.to_entry())),
             Err(fault) => Err(fault),
         }
@@ -34,7 +44,7 @@ mod tests {
         l: &[u32],
         r: &[u32],
     ) -> Result<[u32; 4], WriterFault> {
-        match message::<K>(g, g, K::base(), l, r) {
+        match message(&bench::<K>(g), l, r) {
             Ok(m) => Ok([
                 m.l1.to_entry(),
                 m.l2.to_entry(),
@@ -109,10 +119,8 @@ mod tests {
         let mut out = [170; 40];
         let mut elements = [9; 5];
         let mut numbers = [9; 5];
-        let short = whole_proof::<Clear>(
-            &g,
-            &g,
-            Clear::base(),
+        let short = whole_proof(
+            &bench::<Clear>(&g),
             &[3, 5],
             &[7, 11],
             &[0],
@@ -121,10 +129,8 @@ mod tests {
             &mut numbers,
         );
         assert_eq!(rt; short, Err(WriterFault::Room(36)));
-        let zero = whole_proof::<Clear>(
-            &g,
-            &g,
-            Clear::base(),
+        let zero = whole_proof(
+            &bench::<Clear>(&g),
             &[3, 5],
             &[7, 11],
             &[0],
@@ -135,10 +141,8 @@ mod tests {
         assert_eq!(rt; zero, Err(WriterFault::NotAChallenge(0)));
         assert_eq!(rt; elements, [9; 5]);
         assert_eq!(rt; numbers, [9; 5]);
-        let done = whole_proof::<Clear>(
-            &g,
-            &g,
-            Clear::base(),
+        let done = whole_proof(
+            &bench::<Clear>(&g),
             &[3, 5],
             &[7, 11],
             &[2],
@@ -178,9 +182,7 @@ mod tests {
         let mut numbers = [0; 512];
         match write_and_check::<K, M>(
             method,
-            &g[0..n],
-            &g[0..n],
-            K::base(),
+            &bench::<K>(&g[0..n]),
             &l[0..n],
             &r[0..n],
             challenges,

@@ -9,6 +9,7 @@ use crate::stop::Stop;
 use kind::bench::fill_bench;
 use kind::clear::Clear;
 use kind::kind::Kind;
+use method::bases::Bases;
 use std::alloc::{AllocError, Global};
 use writer::fault::WriterFault;
 use writer::whole::whole_proof;
@@ -35,11 +36,13 @@ fn write_record(
 ) -> Result<usize, WriterFault>
     ensures { IfOk result (λ n. take n out.new ≡ record_over bench.now group.now) }
 {
-    let key = Clear::base();
-    whole_proof::<Clear>(
-        bench,
-        bench,
-        key,
+    let bases = Bases {
+        g: bench,
+        h: bench,
+        key: Clear::base(),
+    };
+    whole_proof(
+        &bases,
         &group.quantities,
         &group.prices,
         &group.challenges,

@@ -3,7 +3,7 @@ use crate::script::Said;
 use kind::bench::fill_bench;
 use kind::kind::Kind;
 use ledger::fault::StationFault;
-use ledger::parts::{Answer, Line};
+use ledger::parts::Line;
 use method::fault::MethodFault;
 use method::method::Method;
 use station::replay::perform;
@@ -41,7 +41,7 @@ impl Lists {
     ) -> Line {
         let answer = match said.call::<K>(&self.bench) {
             Ok(call) => perform(station, &call, &mut self.elements, &mut self.numbers),
-            Err(fault) => Answer::Refused(StationFault::Method(MethodFault::Kind(fault, 0), 0)),
+            Err(fault) => StationFault::from(MethodFault::from(fault)).into(),
         };
         Line {
             answer,

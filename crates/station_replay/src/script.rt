@@ -6,6 +6,7 @@ use kind::bytes::cut;
 use kind::fault::KindFault;
 use kind::kind::Kind;
 use ledger::parts::{Message, Numbers, Sort};
+use method::bases::Bases;
 use station::call::{Call, LastPair};
 use text::words::Words;
 
@@ -185,7 +186,7 @@ impl Said {
     pub fn call<'a, K: Kind<Entry = u32>>(
         self,
         bench: &'a [u32],
-    ) -> Result<Call<'a, K, u32>, KindFault> {
+    ) -> Result<Call<'a, K>, KindFault> {
         Ok(match self {
             Said::Open(k, z1, z2) => Call::Open(k, K::from_entry(z1)?, K::from_entry(z2)?),
             Said::Message(sort, token, m) => Call::Message(sort, token, message_of::<K>(m)?),
@@ -194,9 +195,11 @@ impl Said {
                 let (g, _) = cut(bench, usize::from(p.g));
                 let (h, _) = cut(bench, usize::from(p.h));
                 let pair = LastPair {
-                    g,
-                    h,
-                    key: K::base(),
+                    bases: Bases {
+                        g,
+                        h,
+                        key: K::base(),
+                    },
                     a: p.a,
                     b: p.b,
                     elements: usize::from(p.elements),
