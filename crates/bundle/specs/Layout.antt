@@ -1,5 +1,6 @@
 -- The directory of a bundle: a count, and as many pairs of offset and length, all written highest byte first. Assumes nothing.
-use Rattle.std.specs.Prelude.{ℕ, zero, suc, ◌+◌, ◌-◌, ◌*◌, cond, ◌&&◌, List, [], ◌∷◌, length, drop, Ok, Err, Result, nat_le, slice_index}
+use Rattle.std.specs.Prelude.{◌≡◌, ℕ, zero, suc, ◌+◌, ◌-◌, ◌*◌, cond, ◌&&◌, List, [], ◌∷◌, length, drop, Ok, Err, Result, Option, MatchOption, nat_le, slice_index}
+use Rattle.std.specs.Iterator.{Count, at_most}
 use Rattle.kind.specs.Bytes.{number_in}
 use Rattle.kind.specs.Faults.{first_of, unless}
 use Rattle.bundle.specs.declared.fault.BundleFault.{BundleFault}
@@ -51,3 +52,13 @@ directory_refusal file = first_of (whole_refusal file ∷ all_pairs_refusal file
 -- the pairs that are still to come
 abbrev pub to_come : Pairs → List Extent
 to_come ps = pairs_in (ps.count - ps.index) ps.rest.now
+
+-- a call gave the next pair, and counted it, or there was none and there is none
+abbrev pub GivesPair : Pairs → Option Extent → Pairs → Type 0
+GivesPair before pair after =
+    MatchOption pair ((to_come before ≡ []) × (to_come after ≡ [])) (λ p. to_come before ≡ p ∷ to_come after)
+    × MatchOption pair (after.index ≡ before.index) (λ _. after.index ≡ before.index + 1)
+
+-- there are at most so many pairs
+abbrev pub pairs_most : Pairs → Count
+pairs_most p = at_most (length (to_come p))

@@ -30,9 +30,7 @@ impl<'a> Records<'a> {
         ensures numbers { work_numbers.new ≡ cleared_next (left self.old) result 0 work_numbers.old }
     {
         let index = self.index();
-        let Some(body) = self.next() else {
-            return None;
-        };
+        let body = self.next()?;
         let answer = check_front::<K, M>(method, body, bases, work_elements, work_numbers);
         Some(answer.map_err(|fault| BundleFault::Record(fault, index)))
     }

@@ -1,6 +1,7 @@
 // The directory of a bundle: its pairs, and the check of them all.
-ghost use Rattle.std.specs.Prelude.{◌≡◌, ◌+◌, [], ◌∷◌, MatchOption};
-ghost use Rattle.bundle.specs.Layout.{count_in, pair_in, all_pairs, to_come, whole_refusal, all_pairs_refusal, directory_refusal};
+ghost use Rattle.std.specs.Prelude.{◌≡◌, ◌+◌, [], ◌∷◌, MatchOption, ⊤};
+ghost use Rattle.std.specs.Iterator.{MakesProgress};
+ghost use Rattle.bundle.specs.Layout.{count_in, pair_in, all_pairs, to_come, whole_refusal, all_pairs_refusal, directory_refusal, pairs_most, GivesPair};
 
 use crate::fault::BundleFault;
 use kind::bytes::{byte_at, cut, number_in};
@@ -52,11 +53,20 @@ impl<'a> Pairs<'a> {
             index: 0,
         }
     }
+}
+
+impl Iterator for Pairs<'_> {
+    type Item = Extent;
+
+    ghost next_gives = { GivesPair };
+
+    ghost remaining = { pairs_most };
 
     // The next pair, or None when none is left.
-    pub(crate) fn next(&mut self) -> Option<Extent>
+    fn next(&mut self) -> Option<Extent>
         ensures pairs { MatchOption result ((to_come self.old ≡ []) × (to_come self.new ≡ [])) (λ p. to_come self.old ≡ p ∷ to_come self.new) }
         ensures counted { MatchOption result (self.new.index ≡ self.old.index) (λ _. self.new.index ≡ self.old.index + 1) }
+        ensures goes { MakesProgress (λ _. ⊤) pairs_most self.old result self.new }
     {
         if self.index >= self.count {
             return None;

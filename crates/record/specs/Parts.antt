@@ -1,5 +1,6 @@
 -- The parts of a record, as lists of bytes: one byte k, then the claim, k rounds and the last pair. Assumes nothing.
-use Rattle.std.specs.Prelude.{ℕ, zero, suc, ◌+◌, ◌*◌, List, [], ◌∷◌, take, drop, slice_index}
+use Rattle.std.specs.Prelude.{◌≡◌, ℕ, zero, suc, ◌+◌, ◌*◌, List, [], ◌∷◌, length, take, drop, Option, slice_index, MatchOption}
+use Rattle.std.specs.Iterator.{Count, at_most}
 use Rattle.record.specs.declared.part.Part.{Part}
 use Rattle.record.specs.declared.part.Part.TheVariants as part
 use Rattle.record.specs.declared.part.Stage.{Stage}
@@ -48,3 +49,11 @@ coming cs rs stage.Done bs = []
 -- what a reader has yet to hand out
 abbrev pub left : Reader → List Piece
 left r = coming r.claim_size r.round_size r.stage r.rest.now
+
+-- a call handed out the next part, or there was none and there is none
+abbrev pub HandsOut : Reader → Option Part → Reader → Type 0
+HandsOut before part after = MatchOption part ((left before ≡ []) × (left after ≡ [])) (λ p. left before ≡ piece_of p ∷ left after)
+
+-- there are at most so many parts
+abbrev pub parts_most : Reader → Count
+parts_most r = at_most (length (left r))

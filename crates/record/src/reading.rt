@@ -1,6 +1,7 @@
 // The reader that hands out the parts of a record.
-ghost use Rattle.std.specs.Prelude.{◌≡◌, [], ◌∷◌, MatchOption};
-ghost use Rattle.record.specs.Parts.{left, piece_of, pieces_in};
+ghost use Rattle.std.specs.Prelude.{◌≡◌, ⊤};
+ghost use Rattle.std.specs.Iterator.{MakesProgress};
+ghost use Rattle.record.specs.Parts.{left, pieces_in, parts_most, HandsOut};
 
 use crate::part::{Part, Reader, Stage};
 use kind::bytes::{byte_at, cut};
@@ -21,10 +22,19 @@ impl<'a> Reader<'a> {
             stage: Stage::Claim(byte_at(bytes, 0)),
         }
     }
+}
+
+impl<'a> Iterator for Reader<'a> {
+    type Item = Part<'a>;
+
+    ghost next_gives = { HandsOut };
+
+    ghost remaining = { parts_most };
 
     // The next part, or None when none is left.
-    pub fn next(&mut self) -> Option<Part<'a>>
-        ensures { MatchOption result ((left self.old ≡ []) × (left self.new ≡ [])) (λ p. left self.old ≡ piece_of p ∷ left self.new) }
+    fn next(&mut self) -> Option<Part<'a>>
+        ensures parts { HandsOut self.old result self.new }
+        ensures goes { MakesProgress (λ _. ⊤) parts_most self.old result self.new }
     {
         match self.stage {
             Stage::Claim(k) => {

@@ -30,7 +30,7 @@ loop-part-preserved g c =
     let s = g.K.Kind.meaning in
     let w = g.K.WrittenKind.writing in
     let p : Piece = piece_of c.in-Some.part in
-    let more : left c.loop-part.reader ≡ p ∷ left c.next.new.self = c.in-Some.ensures in
+    let more : left c.loop-part.reader ≡ p ∷ left c.next.new.self = c.in-Some.ensures.parts in
     let old = seen c.loop-part.noted in
     let taken : taken_in s w c.loop-part.place old p ≡ Ok (seen c.in_ok-noted.noted) =
     sym c.note_part.ensures.noted ∙ ap seen_in c.in_ok-noted.was in
