@@ -22,9 +22,9 @@ pub(crate) fn copy_rows<T: Copy>(a: &[T], b: &[T], work: &mut [T])
     requires room { length work.old ≡ length a.now + length a.now }
     ensures { work.new ≡ a.now ++ b.now }
 {
-    let n = a.len();
-    work[0..n].copy_from_slice(a);
-    work[n..n + n].copy_from_slice(b);
+    let (first, second) = work.split_at_mut(a.len());
+    first.copy_from_slice(a);
+    second.copy_from_slice(b);
 }
 
 // The message of the lists of 2m entries.
@@ -58,8 +58,9 @@ fn fold_element_rows<K: Kind>(c: u32, n: usize, m: usize, work: &mut [K::Entry])
     ensures g { take m (elements_of K.Kind.meaning work.new) ≡ fold_of K.Kind.meaning OfG c (take (m + m) (elements_of K.Kind.meaning work.old)) }
     ensures h { take m (drop n (elements_of K.Kind.meaning work.new)) ≡ fold_of K.Kind.meaning OfH c (take (m + m) (drop n (elements_of K.Kind.meaning work.old))) }
 {
-    fold_elements::<K>(Side::OfG, c, &mut work[0..m + m]);
-    fold_elements::<K>(Side::OfH, c, &mut work[n..n + (m + m)]);
+    let (g, h) = work.split_at_mut(n);
+    fold_elements::<K>(Side::OfG, c, &mut g[..m + m]);
+    fold_elements::<K>(Side::OfH, c, &mut h[..m + m]);
 }
 
 // The same among the numbers.
@@ -69,8 +70,9 @@ fn fold_number_rows<K: Kind>(c: u32, n: usize, m: usize, work: &mut [u32])
     ensures l { take m work.new ≡ folds_scalars K.Kind.meaning.order OfG c (take (m + m) work.old) }
     ensures r { take m (drop n work.new) ≡ folds_scalars K.Kind.meaning.order OfH c (take (m + m) (drop n work.old)) }
 {
-    fold_scalars::<K>(Side::OfG, c, &mut work[0..m + m]);
-    fold_scalars::<K>(Side::OfH, c, &mut work[n..n + (m + m)]);
+    let (l, r) = work.split_at_mut(n);
+    fold_scalars::<K>(Side::OfG, c, &mut l[..m + m]);
+    fold_scalars::<K>(Side::OfH, c, &mut r[..m + m]);
 }
 
 // Folds all four lists of 2m entries by c into lists of m.

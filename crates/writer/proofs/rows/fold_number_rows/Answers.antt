@@ -1,9 +1,9 @@
-use Rattle.std.proofs.Common.{◌≡◌, ℕ, ◌+◌, ◌-◌, List, length, take, drop, ap, ◌∙◌, arith, length-drop}
-use Rattle.std.proofs.lemmas.List.{length-take-le}
+use Rattle.std.proofs.Common.{◌≡◌, ℕ, ◌+◌, List, length, take, drop, sym, ap, ◌∙◌, arith}
+use Rattle.std.proofs.lemmas.List.{length-take-le, take-append-le}
 use Rattle.kind.specs.declared.side.Side.TheVariants.{OfG, OfH}
 use Rattle.writer.specs.Folds.{fold_scalars, folds_scalars}
 use Rattle.writer.proofs.Folded.{fold_front}
-use Rattle.writer.proofs.TwoRows.{after_first, first_lent, second_lent, front_is, back_is}
+use Rattle.writer.proofs.TwoRows.{front_is, back_is}
 use Rattle.writer.proofs.rows.fold_number_rows.Goals as goal
 
 pub returns : goal.returns
@@ -13,24 +13,24 @@ returns g c =
     let m : ℕ = c.args.m in
     let j : ℕ = m + m in
     let ch : ℕ = c.args.c in
-    let xs : List ℕ = c.args.work.now in
+    let split = c.split_at_mut-l.ensures in
+    let first : List ℕ = c.split_at_mut-l.result.0.now in
+    let second : List ℕ = c.split_at_mut-l.result.1.now in
     let a : List ℕ = c.fold_scalars.new.xs in
     let b : List ℕ = c.fold_scalars-2.new.xs in
     let long = c.requires.long in
     let rows = c.requires.rows in
-    let one = length-take-le (j - 0) xs (omega arith) in
-    let la : length a ≡ j = omega arith in
-    let first = first_lent n j xs a long rows la in
-    let second = second_lent n j xs a long rows la in
-    let d = length-drop n xs in
-    let two = ap length second ∙ length-take-le j (drop n xs) (omega arith) in
-    let lb : length b ≡ j = omega (arith, two) in
-    let ys = take (j - 0) xs in
-    let zs = take (n + j - n) (drop n (after_first n j xs a long rows la)) in
-    let whole_a : length ys ≡ m + m = omega arith in
+    let la = split.front_len in
+    let lb : length second ≡ n = omega (arith, split.back_len) in
+    let ya : length (take j first) ≡ j = length-take-le j first (omega (arith, la)) in
+    let yb : length (take j second) ≡ j = length-take-le j second (omega arith) in
+    let na : length a ≡ j = omega arith in
+    let nb : length b ≡ j = omega arith in
     record {
-      l = front_is n j xs a long rows la b lb m (omega arith)
-          ∙ fold_front (fold_scalars q OfG ch) m ys a _ whole_a c.fold_scalars.ensures ∙ ap (folds_scalars q OfG ch) first;
-      r = back_is n j xs a long rows la b lb m (omega arith)
-          ∙ fold_front (fold_scalars q OfH ch) m zs b _ two c.fold_scalars-2.ensures ∙ ap (folds_scalars q OfH ch) second;
+      l = front_is n j first second a b la rows na m (omega arith)
+          ∙ fold_front (fold_scalars q OfG ch) m (take j first) a _ ya c.fold_scalars.ensures
+          ∙ ap (folds_scalars q OfG ch) (sym (take-append-le j first second (omega arith)) ∙ ap (take j) (sym split.value));
+      r = back_is n j first second a b la rows na m (omega arith)
+          ∙ fold_front (fold_scalars q OfH ch) m (take j second) b _ yb c.fold_scalars-2.ensures
+          ∙ ap (λ x. folds_scalars q OfH ch (take j x)) split.back;
     }
