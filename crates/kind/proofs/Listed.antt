@@ -1,5 +1,6 @@
 -- From entries to elements and back. Assumes nothing.
-use Rattle.std.proofs.Common.{◌≡◌, ℕ, ◌+◌, ◌<◌, false, not, List, [], ◌∷◌, map, length, get_or, take, drop, set, is_some, Some, None, Ok, Option, unwrap_or, sym, refl, ap, ◌∙◌, ap₂, arith}
+use Rattle.std.proofs.Common.{◌≡◌, ℕ, ◌+◌, ◌<◌, false, not, List, [], ◌∷◌, ◌++◌, map, length, get_or, take, drop, set, is_some, Some, None, Ok, Option, unwrap_or, sym, refl, ap, ◌∙◌, ap₂, arith}
+use mathlib.Core.List.{map-append}
 use Rattle.std.proofs.lemmas.List.{get_or-map, length-map, map-set, take-map, drop-map}
 use Rattle.kind.specs.Faults.{first_bad}
 use Rattle.kind.specs.Kinds.{Meaning, Lawful, element_in, elements, AllElements}
@@ -24,6 +25,12 @@ module _ {M E : Type 0} (s : Meaning M E) where
   pub all_drop : (n : ℕ) (es : List E) → AllElements s es → AllElements s (drop n es)
   all_drop n es h = ap (map s.entry) (elements-drop n es) ∙ sym (drop-map s.entry n (elements s es)) ∙ ap (drop n) h
 
+  pub elements-append : (a b : List E) → elements s (a ++ b) ≡ elements s a ++ elements s b
+  elements-append a b = map-append _ a b
+
+  pub all_append : (a b : List E) → AllElements s a → AllElements s b → AllElements s (a ++ b)
+  all_append a b f h = ap (map s.entry) (elements-append a b) ∙ map-append s.entry (elements s a) (elements s b) ∙ ap₂ ◌++◌ f h
+
 module _ {M E : Type 0} (s : Meaning M E) (laws : Lawful s) where
   pub element_entry : (x : M) → element_in s (s.entry x) ≡ x
   element_entry x = ap (λ o. unwrap_or o s.group.unit) (laws.back x)
@@ -31,6 +38,10 @@ module _ {M E : Type 0} (s : Meaning M E) (laws : Lawful s) where
   -- what has the entry e is the element in e
   pub known : (e : E) (r : M) → s.entry r ≡ e → r ≡ element_in s e
   known e r h = sym (element_entry r) ∙ ap (element_in s) h
+
+  -- the element that was read at a place
+  pub read_at : (es : List E) (i : ℕ) (e : E) (r : M) → i < length es → e ≡ get_or es i e → s.entry r ≡ e → r ≡ get_or (elements s es) i s.group.unit
+  read_at es i e r h at is = known e r is ∙ ap (element_in s) at ∙ sym (get_or-map (element_in s) es i e s.group.unit h)
 
   pub elements-entries : (xs : List M) → elements s (map s.entry xs) ≡ xs
   elements-entries [] = refl

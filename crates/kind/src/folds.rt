@@ -35,9 +35,10 @@ pub fn fold_within<K: Kind>(side: Side, c: u32, m: usize, work: &mut [K::Entry])
     ensures checked { AllElements K.Kind.meaning work.new }
     ensures folded { take m (elements K.Kind.meaning work.new) ≡ fold_of K.Kind.meaning side c (take (m + m) (elements K.Kind.meaning work.old)) }
 {
-    for i in 0..m {
-        let list = Checked::<K> { entries: work };
-        let folded = fold_pair(side, c, list.at(i), list.at(m + i));
-        work[i] = folded.to_entry();
+    let (first, last) = work.split_at_mut(m);
+    for (i, entry) in first.iter_mut().enumerate() {
+        let x = K::from_known(*entry);
+        let y = K::from_known(last[i]);
+        *entry = fold_pair(side, c, x, y).to_entry();
     }
 }

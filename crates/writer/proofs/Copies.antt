@@ -3,7 +3,7 @@ use Rattle.std.proofs.Common.{◌≡◌, ℕ, List, ◌++◌, length, get_or, ta
 use Rattle.std.proofs.lemmas.List.{take_at, drop_at, take_all, get_or_append_left, get_or-append_right, nil_from_length}
 use Rattle.kind.specs.Bytes.{Writing, bytes_of}
 use Rattle.kind.specs.Kinds.{Meaning, elements}
-use Rattle.kind.proofs.Listed.{length-elements}
+use Rattle.kind.proofs.Listed.{length-elements, elements-append}
 use Rattle.ledger.specs.Rules.{Lists, claim_of}
 use Rattle.writer.specs.Answers.{lists_of}
 use Rattle.writer.specs.Laying.{Laid}
@@ -11,7 +11,6 @@ use Rattle.writer.specs.Records.{front_written, front_of, rest_of, record_of}
 use Rattle.writer.specs.Rows.{lists_in}
 use Rattle.writer.proofs.Laid.{next}
 use Rattle.writer.proofs.Lengths.{rounds_count}
-use Rattle.writer.proofs.ListParts.{elements-append}
 
 module _ {A : Type 0} where
   second_of : (a b : List A) (n : ℕ) → length a ≡ n → length b ≡ n → take n (drop n (a ++ b)) ≡ b

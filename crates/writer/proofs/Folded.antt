@@ -5,8 +5,7 @@ use Rattle.kind.specs.Kinds.{Meaning, Lawful, elements, unit_entry, AllElements}
 use Rattle.kind.specs.Sides.{fold_by, fold_pair, fold_of}
 use Rattle.kind.specs.declared.side.Side.{Side}
 use Rattle.kind.proofs.Foldings.{length-fold}
-use Rattle.kind.proofs.Listed.{length-elements, element_entry, elements-entries, all_entries}
-use Rattle.writer.proofs.ListParts.{all_append}
+use Rattle.kind.proofs.Listed.{length-elements, element_entry, elements-entries, all_entries, all_append}
 
 -- the fold stands in front
 pub fold_front : {A : Type 0} (f : A → A → A) (m : ℕ) (ys a us : List A) → length ys ≡ m + m → a ≡ fold_by f ys ++ us → take m a ≡ fold_by f ys

@@ -7,13 +7,6 @@ use Rattle.protocol.specs.Halving.{first_half, last_half}
 use Rattle.kind.specs.Kinds.{Meaning, elements, AllElements}
 use Rattle.kind.proofs.Listed.{length-elements, elements-take, elements-drop}
 
-module _ {M E : Type 0} (s : Meaning M E) where
-  pub elements-append : (a b : List E) → elements s (a ++ b) ≡ elements s a ++ elements s b
-  elements-append a b = map-append _ a b
-
-  pub all_append : (a b : List E) → AllElements s a → AllElements s b → AllElements s (a ++ b)
-  all_append a b f h = ap (map s.entry) (elements-append a b) ∙ map-append s.entry (elements s a) (elements s b) ∙ ap₂ ◌++◌ f h
-
 -- the last m of ws were lent, and are x now
 pub cleared_half : {A : Type 0} (n m : ℕ) (ws fs ys : List A) (x : A) → length ws ≡ n → m + m ≡ n → take m ws ≡ fs
     → ys ≡ replicate (length (take (n - m) (drop m ws))) x → put_mid m (n - m) ws ys ≡ fs ++ replicate m x

@@ -36,9 +36,9 @@ fn fold_scalars_within<K: Kind>(side: Side, c: u32, m: usize, xs: &mut [u32])
     requires { m + m ≤ length xs.old }
     ensures { take m xs.new ≡ folds_scalars K.Kind.meaning.order side c (take (m + m) xs.old) }
 {
-    // By index: what is written and both that it is made from are in one list.
-    for i in 0..m {
-        xs[i] = fold_scalar_pair::<K>(side, c, xs[i], xs[m + i]);
+    let (first, last) = xs.split_at_mut(m);
+    for (i, x) in first.iter_mut().enumerate() {
+        *x = fold_scalar_pair::<K>(side, c, *x, last[i]);
     }
 }
 

@@ -6,5 +6,7 @@ use Rattle.kind.proofs.folds.fold_within.Given as goal
 abbrev pub invariant-loop-i : goal.invariant-loop-i
 invariant-loop-i g l =
     let s = g.K.Kind.meaning in
-    let ws = elements s l.initial.work in
-    AllElements s l.work × (elements s l.work ≡ take l.i (fold_of s l.side l.c (take (l.m + l.m) ws)) ++ drop l.i ws)
+    record {
+      checked : AllElements s l.first;
+      folded : elements s l.first ≡ take l.i (fold_of s l.side l.c (take (l.m + l.m) (elements s l.fn.work))) ++ drop l.i (elements s l.initial.first);
+    }

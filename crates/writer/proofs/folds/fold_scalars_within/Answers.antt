@@ -1,5 +1,5 @@
-use Rattle.std.proofs.Common.{◌≡◌, ℕ, ◌+◌, ◌<◌, ◌≤◌, List, length, get_or, take, drop, set, sym, ap, ◌∙◌, arith}
-use Rattle.std.proofs.lemmas.List.{get_or-take, take_at, take_all, length-take-le}
+use Rattle.std.proofs.Common.{◌≡◌, ℕ, ◌+◌, ◌<◌, ◌≤◌, ◌++◌, List, length, get_or, take, drop, set, sym, ap, ◌∙◌, ap₂, append-nil, arith}
+use Rattle.std.proofs.lemmas.List.{get_or-take, get_or-drop, take_at, take_all, drop_all, length-take-le}
 use Rattle.kind.specs.Sides.{fold_by}
 use Rattle.kind.proofs.Foldings.{over_more, over_rest, length-fold, fold_is}
 use Rattle.writer.specs.Folds.{fold_scalars}
@@ -13,16 +13,24 @@ loop-i-preserved g c =
     let i : ℕ = c.loop-i.i in
     let xs = take (m + m) ws in
     let fs = fold_by f xs in
-    let work : List ℕ = c.loop-i.xs in
+    let split = c.split_at_mut-first.ensures in
+    let first : List ℕ = c.loop-i.first in
+    let begun : List ℕ = c.split_at_mut-first.result.0.now in
+    let last : List ℕ = c.split_at_mut-first.result.1.now in
+    let kept = c.loop-i.auto.first in
+    let front_len = split.front_len in
     let room = c.requires in
+    let low : i < m = omega arith in
     let two : length xs ≡ m + m = length-take-le (m + m) ws (omega arith) in
     let n = length-fold f m xs two in
-    let at : (j : ℕ) → i ≤ j → j < m + m → get_or work j 0 ≡ get_or xs j 0 =
-    λ j low high. ap (λ l. get_or l j 0) c.loop-i.invariant ∙ over_rest fs ws i j 0 (omega arith) low ∙ sym (get_or-take (m + m) ws j 0 high) in
+    let x : get_or first i 0 ≡ get_or xs i 0 =
+    ap (λ l. get_or l i 0) c.loop-i.invariant ∙ over_rest fs begun i i 0 (omega arith) (omega arith)
+    ∙ ap (λ l. get_or l i 0) split.front ∙ get_or-take m ws i 0 low ∙ sym (get_or-take (m + m) ws i 0 (omega arith)) in
+    let y : get_or last i 0 ≡ get_or xs (m + i) 0 =
+    ap (λ l. get_or l i 0) split.back ∙ get_or-drop m ws i 0 ∙ sym (get_or-take (m + m) ws (m + i) 0 (omega arith)) in
     let v = c.fold_scalar_pair.result in
-    let is = fold_is f m i xs (get_or work i 0) (get_or work (m + i) 0) v 0 v
-    two (omega arith) (at i (omega arith) (omega arith)) (at (m + i) (omega arith) (omega arith)) c.fold_scalar_pair.ensures in
-    ap (λ l. set l i v) c.loop-i.invariant ∙ over_more fs ws i v (omega arith) (omega arith) is
+    let is = fold_is f m i xs (get_or first i 0) (get_or last i 0) v 0 v two low x y c.fold_scalar_pair.ensures in
+    ap (λ l. set l i v) c.loop-i.invariant ∙ over_more fs begun i v (omega arith) (omega arith) is
 
 pub returns : goal.returns
 returns g c =
@@ -32,8 +40,12 @@ returns g c =
     let i : ℕ = c.loop-i.i in
     let xs = take (m + m) ws in
     let fs = fold_by f xs in
+    let split = c.split_at_mut-first.ensures in
+    let begun : List ℕ = c.split_at_mut-first.result.0.now in
+    let kept = c.loop-i.auto.first in
+    let front_len = split.front_len in
     let room = c.requires in
     let two : length xs ≡ m + m = length-take-le (m + m) ws (omega arith) in
     let n = length-fold f m xs two in
-    let whole : take i fs ≡ fs = take_all i fs (omega arith) in
-    ap (take m) c.loop-i.invariant ∙ take_at (take i fs) (drop i ws) m (ap length whole ∙ n) ∙ whole
+    take_at c.loop-i.first c.split_at_mut-first.result.1.now m (omega arith)
+    ∙ c.loop-i.invariant ∙ ap₂ ◌++◌ (take_all i fs (omega arith)) (drop_all i begun (omega arith)) ∙ append-nil fs

@@ -3,9 +3,8 @@ use Rattle.std.proofs.lemmas.List.{length-take-le, take-append-le}
 use Rattle.kind.specs.Kinds.{elements, AllElements}
 use Rattle.kind.specs.Sides.{fold_of}
 use Rattle.kind.specs.declared.side.Side.TheVariants.{OfG, OfH}
-use Rattle.kind.proofs.Listed.{elements-take, elements-drop, all_take, all_drop}
+use Rattle.kind.proofs.Listed.{elements-take, elements-drop, all_take, all_drop, all_append}
 use Rattle.writer.proofs.Folded.{fold_all, fold-elements}
-use Rattle.writer.proofs.ListParts.{all_append}
 use Rattle.writer.proofs.TwoRows.{front_is, back_is}
 use Rattle.writer.proofs.rows.fold_element_rows.Goals as goal
 

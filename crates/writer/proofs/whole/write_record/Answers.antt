@@ -1,13 +1,13 @@
 use Rattle.std.proofs.Common.{◌≡◌, ℕ, ◌^◌, List, length, sym, refl, ap, ◌∙◌, subst, arith, rules}
 use Rattle.kind.specs.Kinds.{AllElements}
 use Rattle.ledger.specs.Rules.{claim_of}
+use Rattle.kind.proofs.Listed.{all_append}
 use Rattle.writer.specs.Answers.{lists_of}
 use Rattle.writer.specs.Laying.{Laid}
 use Rattle.writer.specs.Records.{rest_of}
 use Rattle.writer.proofs.Copies.{copied, record_laid, rest_none}
 use Rattle.writer.proofs.Laid.{kept}
 use Rattle.writer.proofs.Lengths.{front_long}
-use Rattle.writer.proofs.ListParts.{all_append}
 use Rattle.writer.proofs.whole.write_record.Goals as goal
 
 pub put_last-requires : goal.put_last-requires
