@@ -14,7 +14,8 @@ pub(crate) struct Extent {
     pub(crate) size: u32,
 }
 
-// The pairs from the one of the index `index` on; `rest` begins with it.
+// The pairs from the one of the index `index` on; `rest` begins with it. Bytes and a count, and no slice of pairs: the bytes are not
+// copied.
 #[derive(Drop)]
 pub(crate) struct Pairs<'a> {
     pub(crate) rest: &'a [u8],

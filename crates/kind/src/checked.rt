@@ -17,6 +17,7 @@ pub struct Checked<'a, K: Kind> {
     ghost checked: { AllElements K.Kind.meaning entries.now },
 }
 
+// Written out: neither is derived for a struct with a ghost field.
 impl<K: Kind> Copy for Checked<'_, K> {}
 
 impl<K: Kind> Clone for Checked<'_, K> {

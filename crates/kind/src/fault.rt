@@ -30,7 +30,8 @@ impl fmt::Display for Layer {
     }
 }
 
-// A numbered refusal: its number, the layer where it arose, and the place there.
+// A numbered refusal: its number, the layer where it arose, and the place there. The number is the one that programs print, so it
+// stays a number; the fault that it belongs to is an enum's.
 #[derive(Clone, Copy, PartialEq, Eq, Debug)]
 pub struct Refusal {
     pub number: u8,

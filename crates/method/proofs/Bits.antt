@@ -2,6 +2,7 @@
 use Rattle.std.proofs.Common.{◌≡◌, ℕ, zero, suc, ◌+◌, ◌^◌, ◌<◌, Bool, true, false, cond, T, eqb, ltb, leb, List, [], ◌∷◌, ◌++◌, length, get_or, replicate, sym, refl, ap, ◌∙◌, subst, le_of_suc-le-suc, not-suc-le-zero, add-zero, add-suc, suc-add, zero-add, arith, eqb→eq, ltb→lt, leb→le}
 use Rattle.kind.specs.Both.{both, both_left, both_right}
 use Rattle.method.specs.HighestBit.{HighestBit}
+use Rattle.method.specs.declared.weights.TheConstants.{HIGHEST_BIT}
 
 -- the test f passes at each entry of the list and its place, counted from i
 abbrev every : (ℕ → ℕ → Bool) → ℕ → List ℕ → Bool
@@ -18,15 +19,12 @@ from f (x ∷ xs) i t (suc k) h =
 at : (f : ℕ → ℕ → Bool) (xs : List ℕ) → T (every f 0 xs) → (k : ℕ) → k < length xs → T (f k (get_or xs k 0))
 at f xs t k h = subst (λ (m : ℕ). T (f m (get_or xs k 0))) (zero-add k) (from f xs 0 t k h)
 
-abbrev pub bits : List ℕ
-bits = 0 ∷ (replicate 1 0 ++ (replicate 2 1 ++ (replicate 4 2 ++ (replicate 8 3 ++ (replicate 16 4 ++ (replicate 32 5 ++ (replicate 64 6 ++ replicate 128 7)))))))
-
 -- x is the highest one bit of k, and 0 where k is 0
 abbrev right : ℕ → ℕ → Bool
 right k x = cond (eqb k 0) (eqb x 0) (both (leb (2 ^ x) k) (ltb k (2 ^ x + 2 ^ x)))
 
-right_at : (k : ℕ) → k < 256 → T (right k (get_or bits k 0))
-right_at = at right bits tt
+right_at : (k : ℕ) → k < 256 → T (right k (get_or HIGHEST_BIT k 0))
+right_at = at right HIGHEST_BIT tt
 
 means : (k x : ℕ) (b : Bool) → eqb k 0 ≡ b → T (cond b (eqb x 0) (both (leb (2 ^ x) k) (ltb k (2 ^ x + 2 ^ x)))) → HighestBit k x
 means k x true e t = record {
@@ -40,5 +38,5 @@ means k x false e t = record {
   high = λ _. ltb→lt k (2 ^ x + 2 ^ x) (both_right (leb (2 ^ x) k) (ltb k (2 ^ x + 2 ^ x)) t);
 }
 
-pub highest_bit : (k : ℕ) → k < 256 → HighestBit k (get_or bits k 0)
-highest_bit k h = means k (get_or bits k 0) (eqb k 0) refl (right_at k h)
+pub highest_bit : (k : ℕ) → k < 256 → HighestBit k (get_or HIGHEST_BIT k 0)
+highest_bit k h = means k (get_or HIGHEST_BIT k 0) (eqb k 0) refl (right_at k h)

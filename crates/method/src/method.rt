@@ -13,6 +13,8 @@ use kind::entries::clear_entries;
 use kind::kind::Kind;
 use kind::pair::Pair;
 
+// The two work lists stay two parameters. In a struct of two `&mut`, each contract would also have to say that both references are
+// still the same ones.
 pub trait Method {
     // The verdict on lists of which nothing is refused. The work lists may be left with anything in them.
     // This is what a method writes; a program calls `verdict`.

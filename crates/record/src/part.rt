@@ -10,7 +10,7 @@ pub enum Part<'a> {
     LastPair(&'a [u8]),
 }
 
-// What comes next, and how many rounds are to come.
+// What comes next, and how many rounds are to come. A state and no closure: the reader is handed to callers.
 #[derive(Clone, Copy)]
 pub(crate) enum Stage {
     Claim(u8),

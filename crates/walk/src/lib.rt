@@ -21,7 +21,8 @@ fn waiting(next: Next) -> Result<Waiting, Back<Held>> {
     }
 }
 
-// The token for the last pair, where that is what the case waits for.
+// The token for the last pair, where that is what the case waits for. The same match with the arms changed over: one function for both
+// would want a trait for its two types.
 fn closing(next: Next) -> Result<Closing, Back<Held>> {
     match next {
         Next::Closing(t) => Ok(t),

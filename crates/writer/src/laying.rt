@@ -1,4 +1,5 @@
-// Writing bytes at a running place: each function answers the place behind what it wrote.
+// Writing bytes at a running place: each function answers the place behind what it wrote. The output and the place are no struct: with
+// the `&mut` in it, each contract would also have to say that the reference is still the same one.
 ghost use Rattle.std.specs.Prelude.{◌≡◌, ◌+◌, ◌*◌, ◌<◌, ◌≤◌, [], ◌∷◌, length};
 ghost use Rattle.kind.specs.Bytes.{bytes_of};
 ghost use Rattle.ledger.specs.Ledger.{lower, upper};

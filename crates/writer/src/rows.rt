@@ -1,4 +1,5 @@
-// The lists of a proof in two work lists: G and H one behind the other among the elements, l and r among the numbers.
+// The lists of a proof in two work lists: G and H one behind the other among the elements, l and r among the numbers. They are lent, and
+// are no struct for the reason that a method's work lists are none.
 ghost use Rattle.std.specs.Prelude.{◌≡◌, ◌+◌, ◌≤◌, ◌++◌, length, take, drop};
 ghost use Rattle.kind.specs.Kinds.{elements as elements_of, AllElements};
 ghost use Rattle.kind.specs.Sides.{fold_of};
