@@ -1,10 +1,9 @@
 -- Parts of lists of entries, and lists whose last half is cleared. Assumes nothing.
-use Rattle.std.proofs.Common.{◌≡◌, ℕ, ◌+◌, ◌-◌, ◌/◌, List, ◌++◌, map, length, take, drop, replicate, sym, ap, ◌∙◌, ap₂, append-nil, arith, length-drop}
-use mathlib.Core.List.{map-append}
+use Rattle.std.proofs.Common.{◌≡◌, ℕ, ◌+◌, ◌-◌, ◌/◌, List, ◌++◌, length, take, drop, replicate, sym, ap, ◌∙◌, ap₂, append-nil, arith, length-drop}
 use borrow.Rule.Slice.PartMut.{put_mid}
 use Rattle.std.proofs.lemmas.List.{drop_all, length-take-le}
 use Rattle.protocol.specs.Halving.{first_half, last_half}
-use Rattle.kind.specs.Kinds.{Meaning, elements, AllElements}
+use Rattle.kind.specs.Kinds.{Meaning, elements}
 use Rattle.kind.proofs.Listed.{length-elements, elements-take, elements-drop}
 
 -- the last m of ws were lent, and are x now

@@ -1,4 +1,4 @@
-use Rattle.std.proofs.Common.{◌≡◌, ℕ, ◌+◌, ◌<◌, ◌≤◌, ◌++◌, length, get_or, take, drop, set, sym, refl, ap, ◌∙◌, subst, ap₂, append-nil, arith}
+use Rattle.std.proofs.Common.{◌≡◌, ℕ, ◌+◌, ◌<◌, ◌++◌, length, get_or, take, set, sym, refl, ap, ◌∙◌, subst, ap₂, append-nil, arith}
 use Rattle.std.proofs.lemmas.List.{get_or-take, get_or-drop, take_at, take_all, drop_all, length-take-le}
 use Rattle.kind.specs.Kinds.{AllElements, element_in, elements}
 use Rattle.kind.specs.Sides.{fold_pair, fold_of}

@@ -1,4 +1,4 @@
-use Rattle.std.proofs.Common.{◌≡◌, ℕ, ◌+◌, ◌<◌, ◌≤◌, ◌++◌, List, length, get_or, take, drop, set, sym, ap, ◌∙◌, ap₂, append-nil, arith}
+use Rattle.std.proofs.Common.{◌≡◌, ℕ, ◌+◌, ◌<◌, ◌++◌, List, length, get_or, take, set, sym, ap, ◌∙◌, ap₂, append-nil, arith}
 use Rattle.std.proofs.lemmas.List.{get_or-take, get_or-drop, take_at, take_all, drop_all, length-take-le}
 use Rattle.kind.specs.Sides.{fold_by}
 use Rattle.kind.proofs.Foldings.{over_more, over_rest, length-fold, fold_is}
