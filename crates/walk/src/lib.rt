@@ -75,9 +75,8 @@ pub fn two_rounds<K: Kind, M: Method>(
     numbers: &mut [u32],
 ) -> Result<bool, StationFault> {
     let opened = station.open(2, z.a, z.b)?;
-    play(station, opened, rounds, bases, last, elements, numbers).map_err(|back| give_up(
-        station, back,
-    ))
+    let played = play(station, opened, rounds, bases, last, elements, numbers);
+    played.map_err(|back| give_up(station, back))
 }
 
 #[cfg(test)]
