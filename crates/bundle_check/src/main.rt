@@ -3,13 +3,13 @@
 
 use bundle::fault::BundleFault;
 use bundle::records::Records;
+use input::reading::read_all;
 use kind::bench::fill_bench;
 use kind::clear::Clear;
 use kind::kind::Kind;
 use method::bases::Bases;
 use method::halving::Halving;
 use std::io;
-use text::input::read_all;
 
 const LIMIT: u32 = 65_536;
 

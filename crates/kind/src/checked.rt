@@ -17,7 +17,7 @@ pub struct Checked<'a, K: Kind> {
     ghost checked: { AllElements K.Kind.meaning entries.now },
 }
 
-// Written out: neither is derived for a struct with a ghost field.
+// Written out: neither is derived for a generic struct with a ghost field.
 impl<K: Kind> Copy for Checked<'_, K> {}
 
 impl<K: Kind> Clone for Checked<'_, K> {
@@ -54,7 +54,7 @@ impl<'a, K: Kind> Checked<'a, K> {
         requires { i < length self.now.entries.now }
         ensures { result ≡ slice_index_or (elements K.Kind.meaning self.now.entries.now) i K.Kind.meaning.group.unit }
     {
-        K::from_known(self.entries[i])
+        K::element_at(self.entries, i)
     }
 
     // The powers of the elements by as many scalars, joined.
@@ -62,10 +62,6 @@ impl<'a, K: Kind> Checked<'a, K> {
         requires { length scalars.now ≡ length self.now.entries.now }
         ensures { result ≡ product_of K.Kind.meaning.group (elements K.Kind.meaning self.now.entries.now) scalars.now }
     {
-        let mut total = K::unit();
-        for (entry, scalar) in self.entries.iter().zip(scalars) {
-            total = total.join(K::from_known(*entry).power(*scalar));
-        }
-        total
+        K::join_powers(self.entries, scalars)
     }
 }

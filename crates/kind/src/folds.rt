@@ -11,10 +11,7 @@ use crate::side::Side;
 pub fn fold_pair<K: Kind>(side: Side, c: u32, x: K, y: K) -> K
     ensures { result ≡ fold_pair K.Kind.meaning side c x y }
 {
-    match side {
-        Side::OfG => x.power(c).join(y),
-        Side::OfH => x.join(y.power(c)),
-    }
+    x.fold_with(y, side, c)
 }
 
 // Folds a list into `out`, which is half as long.
@@ -35,10 +32,5 @@ pub fn fold_within<K: Kind>(side: Side, c: u32, m: usize, work: &mut [K::Entry])
     ensures checked { AllElements K.Kind.meaning work.new }
     ensures folded { take m (elements K.Kind.meaning work.new) ≡ fold_of K.Kind.meaning side c (take (m + m) (elements K.Kind.meaning work.old)) }
 {
-    let (first, last) = work.split_at_mut(m);
-    for (i, entry) in first.iter_mut().enumerate() {
-        let x = K::from_known(*entry);
-        let y = K::from_known(last[i]);
-        *entry = fold_pair(side, c, x, y).to_entry();
-    }
+    K::fold_within(side, c, m, work)
 }

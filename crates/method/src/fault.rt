@@ -1,5 +1,6 @@
 // The method's faults, and how it takes up the kind's.
-ghost use Rattle.std.specs.Prelude.{◌≡◌};
+ghost use Rattle.std.specs.Prelude.{◌≡◌, ℕ};
+ghost use Rattle.kind.specs.Faults.{wrapped};
 ghost use Rattle.method.specs.Faults.{method_refusal};
 ghost use Rattle.method.specs.declared.fault.MethodFault.TheVariants.{Kind};
 
@@ -50,5 +51,25 @@ impl From<KindFault> for MethodFault {
 
     fn from(fault: KindFault) -> MethodFault {
         MethodFault::Kind(fault, 0)
+    }
+}
+
+// A result of a lower layer, as the method's: its fault is kept whole, with the method's place. At the place 0 `?` does the same.
+pub trait InMethod: Sized {
+    type Told;
+
+    ghost told: { Self → ℕ → Self.Told };
+
+    fn in_method(self, place: usize) -> Self::Told
+        ensures { result ≡ told self place };
+}
+
+impl<T> InMethod for Result<T, KindFault> {
+    type Told = Result<T, MethodFault>;
+
+    ghost told = { wrapped Kind };
+
+    fn in_method(self, place: usize) -> Result<T, MethodFault> {
+        self.map_err(|fault| MethodFault::Kind(fault, place))
     }
 }

@@ -1,5 +1,5 @@
-// The check of a last pair at length 1.
-ghost use Rattle.std.specs.Prelude.{◌≡◌};
+// The check of a last pair at length 1, and clearing of numbers.
+ghost use Rattle.std.specs.Prelude.{◌≡◌, length, replicate};
 ghost use Rattle.method.specs.Meaning.{passes as passes_of};
 
 use kind::kind::Kind;
@@ -17,4 +17,10 @@ pub(crate) fn passes<K: Kind>(z: Pair<K>, key: K, x: K, y: K, a: u32, b: u32) ->
     let one = left.same(z.a);
     let two = right.join(total).same(z.b);
     one && two
+}
+
+pub fn clear_numbers(numbers: &mut [u32])
+    ensures { numbers.new ≡ replicate (length numbers.old) 0 }
+{
+    numbers.fill(0);
 }

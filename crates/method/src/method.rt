@@ -8,6 +8,7 @@ ghost use Rattle.method.specs.Tables.{challenges};
 use crate::admit::{check_content, check_lengths};
 use crate::bases::{Bases, CheckedBases};
 use crate::fault::MethodFault;
+use crate::last_pair::clear_numbers;
 use crate::table::ChallengeTable;
 use kind::entries::clear_entries;
 use kind::kind::Kind;
@@ -49,7 +50,7 @@ pub trait Method {
     {
         let passes = self.decide(cs, z, bases, a, b, elements, numbers);
         clear_entries::<K>(elements);
-        numbers.fill(0);
+        clear_numbers(numbers);
         passes
     }
 

@@ -11,6 +11,7 @@ ghost use Rattle.method.specs.Tables.{challenges};
 
 use crate::admit::{check_scalar, is_size};
 use crate::fault::MethodFault;
+use crate::last_pair::clear_numbers;
 use crate::table::ChallengeTable;
 use crate::weights::fill_weights;
 use kind::checked::Checked;
@@ -127,7 +128,7 @@ fn quick_decide_and_clear<K: Kind>(
 {
     let passes = quick_decide(cs, z, g, key, a, b, weight, numbers);
     clear_entries::<K>(elements);
-    numbers.fill(0);
+    clear_numbers(numbers);
     passes
 }
 

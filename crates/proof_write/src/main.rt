@@ -11,9 +11,9 @@ use crate::bundle::{directory, push_lines};
 use crate::hex::push_hex;
 use crate::prove::prove_all;
 use crate::stop::Stop;
-use std::io::Write;
+use input::reading::read_all;
+use std::io::{BufWriter, Write};
 use std::{env, io};
-use text::input::read_all;
 
 const LIMIT: u32 = 1_048_576;
 
@@ -34,6 +34,15 @@ fn wanted_output(rt: &HostRuntime) -> io::Result<Option<Output>> {
     Ok(hex.then_some(Output::Hex))
 }
 
+// Writes the directory, and the records behind it. Where there is no memory for a buffer, each record is written by itself.
+fn write_bytes<W: Write>(to: &mut W, front: &[u8], records: &[Vec<u8>]) -> io::Result<()> {
+    to.write_all(front)?;
+    for record in records {
+        to.write_all(record)?;
+    }
+    to.flush()
+}
+
 // Writes the bundle's bytes, or its directory and its records in lines of hexadecimal digits. A text within the limit has
 // too few groups for a bundle that is too long.
 fn write_bundle(rt: &HostRuntime, records: &[Vec<u8>], output: Output) -> io::Result<()> {
@@ -42,11 +51,10 @@ fn write_bundle(rt: &HostRuntime, records: &[Vec<u8>], output: Output) -> io::Re
     };
     match output {
         Output::Bytes => {
-            rt.stdout().write_all(&front)?;
-            for record in records {
-                rt.stdout().write_all(record)?;
+            match BufWriter::new(rt.alloc(), rt.stdout()) {
+                Ok(mut to) => write_bytes(&mut to, &front, records),
+                Err(_) => write_bytes(&mut rt.stdout(), &front, records),
             }
-            Ok(())
         }
         Output::Hex => {
             let mut digits = Vec::new(rt.alloc());
@@ -58,8 +66,11 @@ fn write_bundle(rt: &HostRuntime, records: &[Vec<u8>], output: Output) -> io::Re
     }
 }
 
-fn run(rt: &HostRuntime, text: &[u8], output: Output) -> io::Result<()> {
-    match prove_all(rt.alloc(), text) {
+// The text is let go before the bundle is written.
+fn run(rt: &HostRuntime, text: Vec<u8>, output: Output) -> io::Result<()> {
+    let proved = prove_all(rt.alloc(), &text);
+    drop(text);
+    match proved {
         Ok(records) => write_bundle(rt, &records, output),
         Err(Stop::Memory(e)) => Err(e.into()),
         Err(stop) => println!(rt; "{stop}"),
@@ -72,6 +83,6 @@ fn main(rt: HostRuntime) -> io::Result<()> {
     };
     match read_all(rt.alloc(), rt.stdin(), LIMIT)? {
         None => println!(rt; "input too long"),
-        Some(text) => run(&rt, &text, output),
+        Some(text) => run(&rt, text, output),
     }
 }

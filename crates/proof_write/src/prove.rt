@@ -1,7 +1,8 @@
 // The proofs of groups, over the bench lists.
-ghost use Rattle.std.specs.Prelude.{◌≡◌, take, IfOk};
+ghost use Rattle.std.specs.Prelude.{◌≡◌, min, take, IfOk};
 ghost use Rattle.kind.specs.Bench.{bench_entries};
 ghost use Rattle.kind.specs.Clears.{clear_meaning};
+ghost use Rattle.record.specs.Parts.{record_length};
 ghost use Rattle.proof_write.specs.Proofs.{record_over, group_record};
 
 use crate::groups::{Group, Groups};
@@ -14,8 +15,12 @@ use std::alloc::{AllocError, Global};
 use writer::fault::WriterFault;
 use writer::whole::whole_proof;
 
-// The length of a record of eight rounds, the longest.
-const LONGEST: usize = 177;
+// How many bytes a record of so many rounds has. No record has more than eight.
+fn record_size(rounds: usize) -> usize
+    ensures { result ≡ record_length 4 (min rounds 8) }
+{
+    17 + 20 * rounds.min(8)
+}
 
 // The bench list of n entries.
 fn bench_list(heap: Global, n: usize) -> Result<Vec<u32>, AllocError>
@@ -61,7 +66,7 @@ fn record_of(heap: Global, group: &Group, number: usize) -> Result<Vec<u8>, Stop
     let twice = n.saturating_mul(2);
     let mut elements = vec![in heap; 0u32; twice]?;
     let mut numbers = vec![in heap; 0u32; twice]?;
-    let mut out = vec![in heap; 0u8; LONGEST]?;
+    let mut out = vec![in heap; 0u8; record_size(group.challenges.len())]?;
     let length = write_record(group, &bench, &mut out, &mut elements, &mut numbers).map_err(
         |fault| Stop::Refused(fault, number),
     )?;

@@ -1,7 +1,8 @@
 // The record's faults, and how it takes up those of the kind and of the method.
-ghost use Rattle.std.specs.Prelude.{◌≡◌};
+ghost use Rattle.std.specs.Prelude.{◌≡◌, ℕ};
+ghost use Rattle.kind.specs.Faults.{wrapped};
 ghost use Rattle.record.specs.Faults.{record_refusal, own_place};
-ghost use Rattle.record.specs.declared.fault.RecordFault.TheVariants.{Method};
+ghost use Rattle.record.specs.declared.fault.RecordFault.TheVariants.{Kind, Method};
 
 use kind::fault::{KindFault, Layer, Refusal};
 use method::fault::MethodFault;
@@ -63,5 +64,36 @@ impl From<MethodFault> for RecordFault {
 
     fn from(fault: MethodFault) -> RecordFault {
         RecordFault::Method(fault, 0)
+    }
+}
+
+// A result of a lower layer, as the record's: its fault is kept whole, with the record's place. At the place 0 `?` does the same for the
+// method's.
+pub trait InRecord: Sized {
+    type Told;
+
+    ghost told: { Self → ℕ → Self.Told };
+
+    fn in_record(self, place: usize) -> Self::Told
+        ensures { result ≡ told self place };
+}
+
+impl<T> InRecord for Result<T, KindFault> {
+    type Told = Result<T, RecordFault>;
+
+    ghost told = { wrapped Kind };
+
+    fn in_record(self, place: usize) -> Result<T, RecordFault> {
+        self.map_err(|fault| RecordFault::Kind(fault, place))
+    }
+}
+
+impl<T> InRecord for Result<T, MethodFault> {
+    type Told = Result<T, RecordFault>;
+
+    ghost told = { wrapped Method };
+
+    fn in_record(self, place: usize) -> Result<T, RecordFault> {
+        self.map_err(|fault| RecordFault::Method(fault, place))
     }
 }

@@ -21,7 +21,7 @@ pub struct Case<K> {
     ghost due: { is_last stage ≡ (rounds == k) },
 }
 
-// Written out: neither is derived for a struct with ghost fields.
+// Written out: neither is derived for a generic struct with ghost fields.
 impl<K: Copy> Copy for Case<K> {}
 
 impl<K: Copy> Clone for Case<K> {

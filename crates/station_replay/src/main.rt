@@ -6,6 +6,7 @@ mod script;
 
 use crate::lists::Lists;
 use crate::script::{Header, KindName, MethodName, Said};
+use input::reading::read_all;
 use kind::clear::Clear;
 use kind::kind::Kind;
 use kind::residue::Residue;
@@ -14,7 +15,6 @@ use method::method::Method;
 use method::multiplying::MultiplyingOut;
 use station::state::Station;
 use std::io;
-use text::input::read_all;
 use text::lines::Lines;
 
 const LIMIT: u32 = 1_048_576;
@@ -63,6 +63,10 @@ fn run(rt: &HostRuntime, text: &[u8]) -> io::Result<()> {
     else {
         return println!(rt; "line 1: not a call");
     };
+    // No lists are made for a script without calls.
+    if lines.rest.is_empty() {
+        return Ok(());
+    }
     match (kind, method) {
         (KindName::Clear, MethodName::Halving) => {
             serve::<Clear, Halving>(rt, number, Halving, lines)

@@ -1,6 +1,5 @@
-// Lines, words and decimal numbers in bytes, and a whole input.
+// Lines, words and decimal numbers in bytes.
 #![tactic(auto)]
 
-pub mod input;
 pub mod lines;
 pub mod words;

@@ -1,5 +1,6 @@
 // The writer's faults, and how it takes up the kind's.
-ghost use Rattle.std.specs.Prelude.{◌≡◌};
+ghost use Rattle.std.specs.Prelude.{◌≡◌, ℕ};
+ghost use Rattle.kind.specs.Faults.{wrapped};
 ghost use Rattle.writer.specs.Faults.{writer_refusal};
 ghost use Rattle.writer.specs.declared.fault.WriterFault.TheVariants.{Kind};
 
@@ -51,5 +52,25 @@ impl From<KindFault> for WriterFault {
 
     fn from(fault: KindFault) -> WriterFault {
         WriterFault::Kind(fault, 0)
+    }
+}
+
+// A result of a lower layer, as the writer's: its fault is kept whole, with the writer's place. At the place 0 `?` does the same.
+pub trait InWriter: Sized {
+    type Told;
+
+    ghost told: { Self → ℕ → Self.Told };
+
+    fn in_writer(self, place: usize) -> Self::Told
+        ensures { result ≡ told self place };
+}
+
+impl<T> InWriter for Result<T, KindFault> {
+    type Told = Result<T, WriterFault>;
+
+    ghost told = { wrapped Kind };
+
+    fn in_writer(self, place: usize) -> Result<T, WriterFault> {
+        self.map_err(|fault| WriterFault::Kind(fault, place))
     }
 }

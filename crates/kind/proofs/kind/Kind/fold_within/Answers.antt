@@ -4,11 +4,11 @@ use Rattle.kind.specs.Kinds.{AllElements, element_in, elements}
 use Rattle.kind.specs.Sides.{fold_pair, fold_of}
 use Rattle.kind.proofs.Listed.{length-elements, elements-take, elements-drop, elements-append, elements-set, all_at, all_set, all_take, all_drop, all_append, read_at}
 use Rattle.kind.proofs.Foldings.{over_more, over_rest, length-fold, fold_is}
-use Rattle.kind.proofs.folds.fold_within.Goals as goal
+use Rattle.kind.proofs.kind.Kind.fold_within.Goals as goal
 
 pub loop-i-init : goal.loop-i-init
 loop-i-init g c =
-    let s = g.K.Kind.meaning in
+    let s = g.Self.Kind.meaning in
     record {
       checked = subst (AllElements s) (sym c.split_at_mut-first.ensures.front) (all_take s c.args.m c.args.work.now c.requires.checked);
       folded = refl;
@@ -16,14 +16,14 @@ loop-i-init g c =
 
 pub from_known-x-requires : goal.from_known-x-requires
 from_known-x-requires g c =
-    let k = g.K.Kind in
+    let k = g.Self.Kind in
     let e = c.index-first-i.result in
     let long = c.loop-i.auto.first in
     (element_in k.meaning e, all_at k.meaning k.laws c.loop-i.first c.loop-i.i e c.loop-i.invariant.checked (omega arith) c.index-first-i.is ∙ c.index-first-i.is)
 
 pub from_known-y-requires : goal.from_known-y-requires
 from_known-y-requires g c =
-    let k = g.K.Kind in
+    let k = g.Self.Kind in
     let e = c.index-last-i.result in
     let split = c.split_at_mut-first.ensures in
     let room = c.requires.room in
@@ -32,8 +32,8 @@ from_known-y-requires g c =
 
 pub loop-i-preserved : goal.loop-i-preserved
 loop-i-preserved g c =
-    let s = g.K.Kind.meaning in
-    let laws = g.K.Kind.laws in
+    let s = g.Self.Kind.meaning in
+    let laws = g.Self.Kind.laws in
     let side = c.args.side in
     let ch : ℕ = c.args.c in
     let m : ℕ = c.args.m in
@@ -66,8 +66,8 @@ loop-i-preserved g c =
     read_at s laws last i c.index-last-i.result c.from_known-y.result (omega arith) c.index-last-i.is c.from_known-y.ensures
     ∙ ap (λ l. get_or l i unit) (ap (elements s) split.back ∙ elements-drop s m work)
     ∙ get_or-drop m ws i unit ∙ sym (get_or-take (m + m) ws (m + i) unit (omega arith)) in
-    let v = c.fold_pair.result in
-    let is = fold_is (fold_pair s side ch) m i xs c.from_known-x.result c.from_known-y.result v unit v two low x y c.fold_pair.ensures in
+    let v = c.fold_with.result in
+    let is = fold_is (fold_pair s side ch) m i xs c.from_known-x.result c.from_known-y.result v unit v two low x y c.fold_with.ensures in
     record {
       checked = subst (λ d. AllElements s (set first i d)) (sym c.to_entry.ensures) (all_set s laws first i v c.loop-i.invariant.checked);
       folded = ap (λ d. elements s (set first i d)) c.to_entry.ensures ∙ elements-set s laws first i v ∙ ap (λ l. set l i v) c.loop-i.invariant.folded
@@ -76,7 +76,7 @@ loop-i-preserved g c =
 
 pub returns : goal.returns
 returns g c =
-    let s = g.K.Kind.meaning in
+    let s = g.Self.Kind.meaning in
     let side = c.args.side in
     let ch : ℕ = c.args.c in
     let m : ℕ = c.args.m in

@@ -1,7 +1,7 @@
 // A program's whole input.
 ghost use Rattle.std.specs.Prelude.{◌≡◌, ◌≤◌, vec_items, vec_len, IfOk, IfSome};
 ghost use Rattle.std.specs.Option.{option_map};
-ghost use Rattle.text.specs.Input.{up_to_limit};
+ghost use Rattle.input.specs.Limit.{up_to_limit};
 
 use std::alloc::Global;
 use std::io;

@@ -4,7 +4,7 @@ use Rattle.std.proofs.lemmas.List.{take_all, length-take}
 use Rattle.std.proofs.lemmas.Bool.{cond_both, cond-true, cond-false, leb-true, leb-false, le-leb, lt-leb}
 use Rattle.std.specs.Bool.{then_some}
 use Rattle.std.specs.Option.{option_map, IfSome}
-use Rattle.text.specs.Input.{up_to_limit}
+use Rattle.input.specs.Limit.{up_to_limit}
 
 -- of one byte more than the limit, what was read decides
 taken : (limit n : ℕ) (bs items : List ℕ) → n ≡ limit + 1 → items ≡ take n bs → cond (leb (length items) limit) (Some items) None ≡ up_to_limit limit bs

@@ -1,6 +1,6 @@
 use Rattle.std.proofs.Common.{vec_items, ap, rules, arith}
-use Rattle.text.proofs.Inputs.{read_is}
-use Rattle.text.proofs.input.read_all.Goals as goal
+use Rattle.input.proofs.Inputs.{read_is}
+use Rattle.input.proofs.reading.read_all.Goals as goal
 
 pub returns-clause-bytes : goal.returns-clause-bytes
 returns-clause-bytes g c =
